@@ -1,0 +1,157 @@
+-- The classes of a layout as the code goes through them, by the index k of an entry: one turn of each loop, and its end.
+-- Assumes nothing.
+use Prim.Native.Nat.{ℕ, zero, suc, _+_, _-_, _*_, _≤_, _<_, min}
+use mathlib.Core.Path.{_≡_, refl, sym, ap, _∙_}
+use mathlib.Core.Bool.{Bool, true, false, cond, true≢false}
+use mathlib.Core.List.{List, [], _∷_}
+use native.Mathlib.Numerals.{add-one}
+use native.Mathlib.Omega.{arith}
+use lib.Dec.{eqb, leb}
+use lib.ListN.{length, take, drop, getD, length-take, drop-of-length-le}
+use lib.Seq.{drop-cons, getD-take}
+use borrow.Author.Tests.{eq-eqb, ne-eqb, eqb-true, leb-true}
+use Rattle.dataflash.specs.Answer.{unknownClass}
+use Rattle.dataflash.specs.Choice.{all}
+use Rattle.dataflash.specs.Layout.{maxClasses, maxClassLength, maxImageLength, infoClass, infoLength, keyClass, minKeyLength}
+use Rattle.dataflash.specs.Layout.{Class, paired, classes, sizeOf, size, locate, ordered, lengthIn, valid, fits}
+use Rattle.dataflash.specs.declared.layout.Layout.{Layout}
+use Rattle.dataflash.specs.declared.lookup.Lookup.{Lookup}
+
+abbrev entry : ℕ → ℕ → Class
+entry i n = record { id = i; len = n }
+
+length-paired : (is ns : List ℕ) → length (paired is ns) ≡ min (length is) (length ns)
+length-paired [] ns = omega arith
+length-paired (i ∷ is) [] = omega arith
+length-paired (i ∷ is) (n ∷ ns) = omega (arith, length-paired is ns)
+
+getD-paired : (is ns : List ℕ) (k : ℕ) → k < length is → k < length ns → getD (paired is ns) k (entry 0 0) ≡ entry (getD is k 0) (getD ns k 0)
+getD-paired [] ns k h g = absurd (omega arith)
+getD-paired (i ∷ is) [] k h g = absurd (omega arith)
+getD-paired (i ∷ is) (n ∷ ns) zero h g = refl
+getD-paired (i ∷ is) (n ∷ ns) (suc k) h g = getD-paired is ns k (omega arith) (omega arith)
+
+-- what the loops know of a layout: its arrays are whole, and no more entries are in use than there are
+pub record Whole (l : Layout) : Type 0 where
+  pub ids : length (l .ids) ≡ maxClasses
+  pub lengths : length (l .lengths) ≡ maxClasses
+  pub used : l .count ≤ maxClasses
+
+module _ (l : Layout) (k : ℕ) (w : Whole l) where
+  length-classes : length (classes l) ≡ l .count
+  unfolding classes
+  length-classes = let p = w .ids in let q = w .lengths in let u = w .used in simp (length-take, length-paired) (omega arith)
+
+  pub classes-end : l .count ≤ k → drop k (classes l) ≡ []
+  classes-end h = drop-of-length-le (classes l) {i = k} (omega (arith, length-classes))
+
+  pub classes-next : k < l .count → drop k (classes l) ≡ entry (getD (l .ids) k 0) (getD (l .lengths) k 0) ∷ drop (k + 1) (classes l)
+  unfolding classes
+  classes-next h =
+      let p = w .ids in
+      let q = w .lengths in
+      let u = w .used in
+      let n : k < length (classes l) = omega (arith, length-classes) in
+      rw (add-one, drop-cons (classes l) k (entry 0 0), getD-take (l .count) (paired (l .ids) (l .lengths)) k (entry 0 0) h, getD-paired (l .ids) (l .lengths) k (omega arith) (omega arith))
+
+-- ---- the class search: `e` is the loop's invariant
+
+module _ (l : Layout) (k at i : ℕ) (z : Lookup) (w : Whole l) (e : locate at (drop k (classes l)) i ≡ z) where
+  pub locate-end : l .count ≤ k → Lookup.Refused unknownClass ≡ z
+  locate-end h = rw (classes-end l k w h) at e
+
+  module _ (n : ℕ) (p : n ≡ getD (l .lengths) k 0) (h : k < l .count) where
+    locate-turn : cond (eqb (getD (l .ids) k 0) i) (Lookup.Found at n) (locate (at + n) (drop (k + 1) (classes l)) i) ≡ z
+    locate-turn = rw (classes-next l k w h, ← p) at e
+
+    pub locate-here : getD (l .ids) k 0 ≡ i → Lookup.Found at n ≡ z
+    locate-here q = rw (eq-eqb _ _ q) at locate-turn
+
+    pub locate-on : (getD (l .ids) k 0 ≡ i → ⊥) → locate (at + n) (drop (k + 1) (classes l)) i ≡ z
+    locate-on q = rw (ne-eqb _ _ q) at locate-turn
+
+-- ---- the sum of the lengths
+
+module _ (l : Layout) (k sum z : ℕ) (w : Whole l) (e : sum + sizeOf (drop k (classes l)) ≡ z) where
+  pub size-end : l .count ≤ k → sum ≡ z
+  size-end h = let q : sizeOf (drop k (classes l)) ≡ 0 = ap sizeOf (classes-end l k w h) in omega arith
+
+  pub size-more : (n : ℕ) → n ≡ getD (l .lengths) k 0 → k < l .count → sum + n + sizeOf (drop (k + 1) (classes l)) ≡ z
+  size-more n p h = let q = ap sizeOf (classes-next l k w h) in omega arith
+
+-- ---- the order of the identifiers
+
+-- a test after three others
+all-on : (a b c d : Bool) → all (a ∷ b ∷ c ∷ []) ≡ true → d ≡ all (a ∷ b ∷ c ∷ d ∷ [])
+all-on true true true true e = refl
+all-on true true true false e = refl
+all-on true true false d e = absurd (true≢false (sym e))
+all-on true false c d e = absurd (true≢false (sym e))
+all-on false b c d e = absurd (true≢false (sym e))
+
+all-not : (a b c d : Bool) → all (a ∷ b ∷ c ∷ []) ≡ false → false ≡ all (a ∷ b ∷ c ∷ d ∷ [])
+all-not true true true d e = absurd (true≢false e)
+all-not true true false d e = refl
+all-not true false c d e = refl
+all-not false b c d e = refl
+
+module _ (l : Layout) (k lo : ℕ) (z : Bool) (w : Whole l) (e : ordered lo (drop k (classes l)) ≡ z) where
+  pub ordered-end : l .count ≤ k → true ≡ z
+  ordered-end h = rw (classes-end l k w h) at e
+
+  module _ (i n : ℕ) (t : Bool) (p : i ≡ getD (l .ids) k 0) (q : n ≡ getD (l .lengths) k 0) (h : k < l .count)
+      (g : t ≡ all (leb lo i ∷ leb 1 n ∷ leb n maxClassLength ∷ [])) where
+    ordered-turn : all (leb lo i ∷ leb 1 n ∷ leb n maxClassLength ∷ ordered (i + 1) (drop (k + 1) (classes l)) ∷ []) ≡ z
+    ordered-turn = rw (classes-next l k w h, ← p, ← q) at e
+
+    pub ordered-on : t ≡ true → ordered (i + 1) (drop (k + 1) (classes l)) ≡ z
+    ordered-on r = all-on (leb lo i) (leb 1 n) (leb n maxClassLength) (ordered (i + 1) (drop (k + 1) (classes l))) (sym g ∙ r) ∙ ordered-turn
+
+    pub ordered-not : t ≡ false → false ≡ z
+    ordered-not r = all-not (leb lo i) (leb 1 n) (leb n maxClassLength) (ordered (i + 1) (drop (k + 1) (classes l))) (sym g ∙ r) ∙ ordered-turn
+
+-- ---- what a valid layout has
+
+pub all-true : (t u : Bool) → cond t u false ≡ true → (t ≡ true) × (u ≡ true)
+all-true true u e = (refl, e)
+all-true false u e = absurd (true≢false (sym e))
+
+pub record Valid (l : Layout) : Type 0 where
+  pub some : 1 ≤ l .count
+  pub used : l .count ≤ maxClasses
+  pub order : ordered 0 (classes l) ≡ true
+  pub small : size l ≤ maxImageLength
+  pub info : lengthIn l infoClass ≡ infoLength
+  pub keys : minKeyLength ≤ lengthIn l keyClass
+
+pub valid-parts : (l : Layout) → valid l ≡ true → Valid l
+unfolding valid
+valid-parts l e =
+    let e₁ = all-true (leb 1 (l .count)) _ e in
+    let e₂ = all-true (leb (l .count) maxClasses) _ (e₁ .1) in
+    let e₃ = all-true (ordered 0 (classes l)) _ (e₂ .1) in
+    let e₄ = all-true (leb (size l) maxImageLength) _ (e₃ .1) in
+    let e₅ = all-true (eqb (lengthIn l infoClass) infoLength) _ (e₄ .1) in
+    let e₆ = all-true (leb minKeyLength (lengthIn l keyClass)) _ (e₅ .1) in
+    record {
+      some = leb-true _ _ (e₁ .0);
+      used = leb-true _ _ (e₂ .0);
+      order = e₃ .0;
+      small = leb-true _ _ (e₄ .0);
+      info = eqb-true _ _ (e₅ .0);
+      keys = leb-true _ _ (e₆ .0);
+    }
+
+pub fits-parts : (l : Layout) (n : ℕ) → fits l n ≡ true → (valid l ≡ true) × (n ≡ size l)
+unfolding fits
+fits-parts l n e =
+    let e₁ = all-true (valid l) _ e in
+    let e₂ = all-true (eqb n (size l)) _ (e₁ .1) in
+    (e₁ .0, eqb-true _ _ (e₂ .0))
+
+-- for the functions that ask it of a layout that a call has found valid, or fitting
+pub valid-used : (l : Layout) (t : Bool) → t ≡ valid l → t ≡ true → l .count ≤ maxClasses
+valid-used l t p q = valid-parts l (sym p ∙ q) .used
+
+pub fits-used : (l : Layout) (n : ℕ) (t : Bool) → t ≡ fits l n → t ≡ true → l .count ≤ maxClasses
+fits-used l n t p q = valid-parts l (fits-parts l n (sym p ∙ q) .0) .used

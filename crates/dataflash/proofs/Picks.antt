@@ -1,0 +1,77 @@
+-- How a choice of the rules is answered at a `return`: by what the place knows of the choice, and by the answer of that branch. `search picks`
+-- takes a goal `z ≡ cond t x y` apart so, however deep the choices nest, and finds what is known in the record of the place.
+-- Assumes nothing.
+use Prim.Native.Nat.{ℕ, _<_, _≤_}
+use borrow.Author.Tests.{eq-eqb, ne-eqb, lt-ltb, le-ltb, le-leb, lt-leb}
+use mathlib.Core.Path.{_≡_, refl}
+use mathlib.Core.Bool.{Bool, true, false, cond}
+use lib.Dec.{eqb, ltb, leb}
+use Rattle.dataflash.specs.Answer.{ifFound, errorOf}
+use Rattle.dataflash.specs.declared.lookup.Lookup.{Lookup}
+
+module _ {A : Type 0} (z x y : A) (a b : ℕ) where
+  pub pick-eq : a ≡ b → z ≡ x → z ≡ cond (eqb a b) x y
+  pick-eq p e = rw (eq-eqb a b p) e
+
+  pub pick-ne : (a ≡ b → ⊥) → z ≡ y → z ≡ cond (eqb a b) x y
+  pick-ne p e = rw (ne-eqb a b p) e
+
+  pub pick-lt : a < b → z ≡ x → z ≡ cond (ltb a b) x y
+  pick-lt p e = rw (lt-ltb a b p) e
+
+  pub pick-ge : b ≤ a → z ≡ y → z ≡ cond (ltb a b) x y
+  pick-ge p e = rw (le-ltb a b p) e
+
+  pub pick-le : a ≤ b → z ≡ x → z ≡ cond (leb a b) x y
+  pick-le p e = rw (le-leb a b p) e
+
+  pub pick-gt : b < a → z ≡ y → z ≡ cond (leb a b) x y
+  pick-gt p e = rw (lt-leb a b p) e
+
+-- the last of several tests is the answer
+pub pick-last : (z t : Bool) → z ≡ t → z ≡ cond t true false
+pick-last z true e = e
+pick-last z false e = e
+
+pub ruleset picks = (pick-eq, pick-ne, pick-lt, pick-ge, pick-le, pick-gt, pick-last)
+
+-- the same where a call gave what is tested: k is what the call gave, and t, j or a what the rule tests
+module _ {A : Type 0} (z x y : A) (t k : Bool) (p : k ≡ t) where
+  pub call-true : k ≡ true → z ≡ x → z ≡ cond t x y
+  call-true q e = rw (← p, q) e
+
+  pub call-false : k ≡ false → z ≡ y → z ≡ cond t x y
+  call-false q e = rw (← p, q) e
+
+module _ {A : Type 0} (z x y : A) (j k v : ℕ) (p : k ≡ j) where
+  pub call-eq : k ≡ v → z ≡ x → z ≡ cond (eqb j v) x y
+  call-eq q e = rw (← p, eq-eqb k v q) e
+
+  pub call-ne : (k ≡ v → ⊥) → z ≡ y → z ≡ cond (eqb j v) x y
+  call-ne q e = rw (← p, ne-eqb k v q) e
+
+  pub call-le : k ≤ v → z ≡ x → z ≡ cond (leb j v) x y
+  call-le q e = rw (← p, le-leb k v q) e
+
+  pub call-gt : v < k → z ≡ y → z ≡ cond (leb j v) x y
+  call-gt q e = rw (← p, lt-leb k v q) e
+
+module _ (j k v : ℕ) (p : k ≡ j) where
+  pub call-last-eq : eqb v k ≡ cond (eqb v j) true false
+  call-last-eq = rw (← p) (pick-last (eqb v k) (eqb v k) refl)
+
+  pub call-last-le : leb v k ≡ cond (leb v j) true false
+  call-last-le = rw (← p) (pick-last (leb v k) (leb v k) refl)
+
+module _ {A : Type 0} (z : A) (f : ℕ → ℕ → A) (r : ℕ → A) (a k : Lookup) (p : k ≡ a) where
+  pub call-found : (s n : ℕ) → k ≡ Lookup.Found s n → z ≡ f s n → z ≡ ifFound a f r
+  call-found s n q e = rw (← p, q) e
+
+  pub call-refused : (n : ℕ) → k ≡ Lookup.Refused n → z ≡ r n → z ≡ ifFound a f r
+  call-refused n q e = rw (← p, q) e
+
+-- the error number of an answer, by a call on what a call answered
+pub call-error : (e : ℕ) (a k : Lookup) → k ≡ a → e ≡ errorOf k → e ≡ errorOf a
+call-error e a k p q = rw p at q
+
+pub ruleset calls = (call-true, call-false, call-eq, call-ne, call-le, call-gt, call-last-eq, call-last-le, call-found, call-refused, call-error)

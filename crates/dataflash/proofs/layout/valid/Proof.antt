@@ -1,0 +1,21 @@
+-- `dataflash::layout::valid` meets its contract. Test by test, as the definition.
+-- Assumes nothing.
+use borrow.Author.Needs.{needs}
+use Rattle.dataflash.proofs.Picks.{picks, calls}
+use Rattle.dataflash.specs.Layout.{valid}
+use Rattle.dataflash.proofs.layout.valid.Statement.{statement}
+use Rattle.dataflash.proofs.layout.valid.Tie as tie
+
+pub valid-spec : {M : Type 1} → statement M
+unfolding valid
+valid-spec =
+    tie.close
+    (tie.spec
+    (λ c. search (picks, calls) depth 12)
+    (λ c. search (picks, calls) depth 12)
+    (λ c κs. search needs)
+    (λ c κs. search needs)
+    (λ c κs. search needs)
+    (λ c. search (picks, calls) depth 12)
+    (λ c. search (picks, calls) depth 12)
+    (λ c. search (picks, calls) depth 12))

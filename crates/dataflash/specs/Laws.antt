@@ -1,0 +1,90 @@
+-- What the definitions amount to, claim by claim. The proofs are in proofs/, under the claims' names in small letters.
+-- Assumes nothing.
+use Prim.Native.Nat.{ℕ, _+_, _%_, _≤_, _<_}
+use mathlib.Core.Path.{_≡_}
+use mathlib.Core.Logic.{_⊎_}
+use mathlib.Core.Bool.{true}
+use mathlib.Core.List.{List}
+use lib.ListN.{length, getD, set, take}
+use Rattle.dataflash.specs.Answer.{startOf, lengthOf}
+use Rattle.dataflash.specs.Layout.{size, valid, infoClass, keyClass, minKeyLength}
+use Rattle.dataflash.specs.Lookup.{blockSize, findBlock}
+use Rattle.dataflash.specs.Image.{blockBytes, storeBlock}
+use Rattle.dataflash.specs.Checksum.{total, checksum, checksumAfter, loaded}
+use Rattle.dataflash.specs.declared.layout.Layout.{Layout}
+use Rattle.dataflash.specs.declared.lookup.Lookup.{Lookup}
+
+-- ---- checksums
+
+-- 01: "It equals the long way for every window, place and byte": of any length, where the old byte is a byte
+abbrev pub ShortWay : Type 0
+ShortWay = (bs : List ℕ) (i new : ℕ) → i < length bs → getD bs i 0 < 256 → checksumAfter (checksum bs) (getD bs i 0) new ≡ checksum (set bs i new)
+
+-- 01: "The sum wraps at 256 by intent": checksum and sum make 255 modulo 256, the long way and the short way
+abbrev pub LongWayModulo : Type 0
+LongWayModulo = (bs : List ℕ) → (checksum bs + total bs) % 256 ≡ 255
+
+abbrev pub ShortWayModulo : Type 0
+ShortWayModulo = (bs : List ℕ) (i new : ℕ) → i < length bs → getD bs i 0 < 256 → (checksumAfter (checksum bs) (getD bs i 0) new + total (set bs i new)) % 256 ≡ 255
+
+-- the checksum of a short block as loaded is that of its own bytes
+abbrev pub ChecksumLoaded : Type 0
+ChecksumLoaded = (bs : List ℕ) → checksum (loaded bs) ≡ checksum bs
+
+-- ---- blocks of an image of n bytes
+
+-- a block has 1 to 32 bytes, and they lie inside the image
+pub record Inside (n s k : ℕ) : Type 0 where
+  pub some : 1 ≤ k
+  pub most : k ≤ blockSize
+  pub end : s + k ≤ n
+
+abbrev pub BlockInside : Type 0
+BlockInside = (l : Layout) (n i b s k : ℕ) → findBlock l n i b ≡ Lookup.Found s k → Inside n s k
+
+-- two blocks that differ in class or in number do not overlap
+abbrev pub BlocksApart : Type 0
+BlocksApart =
+    (l : Layout) (n i b s k i′ b′ s′ k′ : ℕ) → findBlock l n i b ≡ Lookup.Found s k → findBlock l n i′ b′ ≡ Lookup.Found s′ k′
+    → ((i ≡ i′) × (b ≡ b′) → ⊥) → (s + k ≤ s′) ⊎ (s′ + k′ ≤ s)
+
+-- a block is as long as its lookup says
+abbrev pub BlockLength : Type 0
+BlockLength = (l : Layout) (image : List ℕ) (i b : ℕ) → length (blockBytes l image i b) ≡ lengthOf (findBlock l (length image) i b)
+
+-- ---- the image after a store of a window w into block b of class i
+
+-- it is as long as before
+abbrev pub StoreLength : Type 0
+StoreLength = (l : Layout) (image : List ℕ) (i b : ℕ) (w : List ℕ) → length w ≡ blockSize → length (storeBlock l image i b w) ≡ length image
+
+-- the block is the window's first bytes, as many as the block has
+abbrev pub StoreHere : Type 0
+StoreHere =
+    (l : Layout) (image : List ℕ) (i b : ℕ) (w : List ℕ) → length w ≡ blockSize
+    → blockBytes l (storeBlock l image i b w) i b ≡ take (lengthOf (findBlock l (length image) i b)) w
+
+-- every byte outside the block is what it was
+abbrev pub Within : Lookup → ℕ → Type 0
+Within a j = (startOf a ≤ j) × (j < startOf a + lengthOf a)
+
+abbrev pub StoreOutside : Type 0
+StoreOutside =
+    (l : Layout) (image : List ℕ) (i b : ℕ) (w : List ℕ) → length w ≡ blockSize
+    → (j : ℕ) → (Within (findBlock l (length image) i b) j → ⊥) → getD (storeBlock l image i b w) j 0 ≡ getD image j 0
+
+-- so is every other block
+abbrev pub StoreElsewhere : Type 0
+StoreElsewhere =
+    (l : Layout) (image : List ℕ) (i b : ℕ) (w : List ℕ) → length w ≡ blockSize → (i′ b′ : ℕ) → ((i ≡ i′) × (b ≡ b′) → ⊥)
+    → blockBytes l (storeBlock l image i b w) i′ b′ ≡ blockBytes l image i′ b′
+
+-- ---- blocks that every valid layout has
+
+-- the three manufacturer info blocks, of 32 bytes each
+abbrev pub InfoBlocks : Type 0
+InfoBlocks = (l : Layout) (b : ℕ) → valid l ≡ true → b < 3 → lengthOf (findBlock l (size l) infoClass b) ≡ blockSize
+
+-- the block that holds the keys
+abbrev pub KeyBlock : Type 0
+KeyBlock = (l : Layout) → valid l ≡ true → minKeyLength ≤ lengthOf (findBlock l (size l) keyClass 0)

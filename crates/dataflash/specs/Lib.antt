@@ -1,0 +1,7 @@
+pub mod Choice
+pub mod Answer
+pub mod Layout
+pub mod Lookup
+pub mod Image
+pub mod Checksum
+pub mod Laws

@@ -1,0 +1,57 @@
+// The blocks of an image: handed out as parts of it, and stored into.
+use crate::layout::Layout;
+use crate::lookup::BLOCK_SIZE;
+use crate::lookup::Lookup;
+use crate::lookup::error_of;
+use crate::lookup::find_block;
+ghost use mathlib.Core.Path.{_≡_};
+ghost use Prim.Native.Nat.{_+_, _≤_};
+ghost use lib.ListN.{length};
+ghost use lib.Seq.{paste};
+ghost use denote.Ref.{ptr};
+ghost use Rattle.dataflash.specs.Answer.{errorOf};
+ghost use Rattle.dataflash.specs.Lookup.{blockSize, findBlock};
+ghost use Rattle.dataflash.specs.Image.{blockBytes, blockPlace, storeBlock};
+
+// The block itself, a part of the lent image and no copy; an empty part where the lookup is refused.
+pub fn block<'a>(layout: Layout, image: &'a [u8], class: u8, block: u8) -> &'a [u8]
+    ensures { λ r. ⌜ now r ≡ blockBytes layout (now (image .entry)) class block ⌝ }
+    ensures { λ r. ⌜ ptr r ≡ blockPlace (ptr (image .entry)) layout (now (image .entry)) class block ⌝ }
+{
+    let Lookup::Found { start, len } = find_block(layout, image.len(), class, block) else {
+        return &image[..0];
+    };
+    let end = start + len;
+    &image[start..end]
+}
+
+// The window's first `len` bytes over the image's from `start` on.
+fn copy_in(image: &mut [u8], start: usize, window: [u8; BLOCK_SIZE], len: usize)
+    requires { ⌜ (start + len ≤ length (now image)) × (len ≤ blockSize) ⌝ }
+    ensures { λ _. ⌜ now (image .exit) ≡ paste (now (image .entry)) start window len ⌝ }
+{
+    let mut k = 0;
+    while k < len {
+        image[start + k] = window[k];
+        k += 1;
+    }
+}
+
+// Stores a window's first bytes into a block, as many as the block has, and answers the lookup's error number.
+pub fn store_block(
+    layout: Layout,
+    image: &mut [u8],
+    class: u8,
+    block: u8,
+    window: [u8; BLOCK_SIZE],
+) -> u8
+    ensures { λ r. ⌜ r ≡ errorOf (findBlock layout (length (now (image .entry))) class block) ⌝ }
+    ensures { λ _. ⌜ now (image .exit) ≡ storeBlock layout (now (image .entry)) class block window ⌝ }
+{
+    let found = find_block(layout, image.len(), class, block);
+    let Lookup::Found { start, len } = found else {
+        return error_of(found);
+    };
+    copy_in(image, start, window, len);
+    0
+}

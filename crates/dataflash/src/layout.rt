@@ -1,0 +1,144 @@
+// Layouts: which classes an image has, in which order and how long. A layout is plain numbers, so a broken one can be
+// passed to every function; `valid` is the test that the others rest on.
+use crate::lookup::Lookup;
+use crate::lookup::locate;
+ghost use mathlib.Core.Path.{_≡_};
+ghost use Prim.Native.Nat.{_≤_, _<_};
+ghost use mathlib.Core.List.{[], _∷_};
+ghost use lib.Dec.{eqb, leb};
+ghost use Rattle.dataflash.specs.Layout.{maxClasses, maxClassLength, infoClass, infoLength, keyClass, minKeyLength};
+ghost use Rattle.dataflash.specs.Choice.{all};
+ghost use Rattle.dataflash.specs.Layout.{classes, ordered, size, lengthIn, valid, fits};
+
+pub const MAX_CLASSES: usize = 32;
+
+pub const MAX_CLASS_LENGTH: usize = 512;
+
+pub const MAX_IMAGE_LENGTH: usize = 4096;
+
+// Manufacturer info: the class of the manufacturer info blocks A, B and C.
+pub const INFO_CLASS: u8 = 58;
+
+pub const INFO_LENGTH: usize = 96;
+
+// The class that begins with the unseal key and the full access key.
+pub const KEY_CLASS: u8 = 112;
+
+pub const MIN_KEY_LENGTH: usize = 28;
+
+// Identifiers and lengths of the classes, in the order of their bytes. Only the first `count` entries mean anything.
+#[repr(C)]
+pub struct Layout {
+    pub count: usize,
+    pub ids: [u8; MAX_CLASSES],
+    pub lengths: [u16; MAX_CLASSES],
+}
+
+// Widened by a call: a cast of an array's element would ask each caller for the element's range.
+fn wide8(x: u8) -> usize
+    ensures { λ r. ⌜ (r ≡ x) × (r < 256) ⌝ }
+{
+    x as usize
+}
+
+pub(crate) fn wide16(x: u16) -> usize
+    ensures { λ r. ⌜ (r ≡ x) × (r < 65536) ⌝ }
+{
+    x as usize
+}
+
+// Whether one entry keeps the identifiers ascending, its own being at least `lo`, and has a length in range.
+fn entry_ok(lo: usize, id: usize, len: usize) -> bool
+    ensures { λ r. ⌜ r ≡ all (leb lo id ∷ leb 1 len ∷ leb len maxClassLength ∷ []) ⌝ }
+{
+    if lo <= id {
+        if 1 <= len {
+            return len <= MAX_CLASS_LENGTH;
+        }
+    }
+    false
+}
+
+// Whether the identifiers ascend and each length is in range.
+fn ordered(layout: Layout) -> bool
+    requires { ⌜ layout .count ≤ maxClasses ⌝ }
+    ensures { λ r. ⌜ r ≡ ordered 0 (classes layout) ⌝ }
+{
+    let mut lo: usize = 0;
+    let mut k = 0;
+    while k < layout.count {
+        let id = wide8(layout.ids[k]);
+        if entry_ok(lo, id, wide16(layout.lengths[k])) {
+            lo = id + 1;
+            k += 1;
+        } else {
+            return false;
+        }
+    }
+    true
+}
+
+// How many bytes the classes have together.
+fn size(layout: Layout) -> usize
+    requires { ⌜ layout .count ≤ maxClasses ⌝ }
+    ensures { λ r. ⌜ r ≡ size layout ⌝ }
+{
+    let mut sum: usize = 0;
+    let mut k = 0;
+    while k < layout.count {
+        sum += wide16(layout.lengths[k]);
+        k += 1;
+    }
+    sum
+}
+
+// How long a class is, 0 where there is none.
+fn length_in(layout: Layout, class: u8) -> usize
+    requires { ⌜ layout .count ≤ maxClasses ⌝ }
+    ensures { λ r. ⌜ r ≡ lengthIn layout class ⌝ }
+{
+    let Lookup::Found { start: _, len } = locate(layout, class) else {
+        return 0;
+    };
+    len
+}
+
+// Whether the two classes that every layout has are there, as long as they must be.
+fn has_fixed_classes(layout: Layout) -> bool
+    requires { ⌜ layout .count ≤ maxClasses ⌝ }
+    ensures { λ r. ⌜ r ≡ all (eqb (lengthIn layout infoClass) infoLength ∷ leb minKeyLength (lengthIn layout keyClass) ∷ []) ⌝ }
+{
+    if length_in(layout, INFO_CLASS) == INFO_LENGTH {
+        return MIN_KEY_LENGTH <= length_in(layout, KEY_CLASS);
+    }
+    false
+}
+
+// Whether a layout keeps document 01's rules.
+pub fn valid(layout: Layout) -> bool
+    ensures { λ r. ⌜ r ≡ valid layout ⌝ }
+{
+    if layout.count < 1 {
+        return false;
+    }
+    if MAX_CLASSES < layout.count {
+        return false;
+    }
+    if ordered(layout) {
+        if size(layout) <= MAX_IMAGE_LENGTH {
+            return has_fixed_classes(layout);
+        }
+    }
+    false
+}
+
+// Whether an image of so many bytes goes with the layout.
+pub fn fits(layout: Layout, image_len: usize) -> bool
+    ensures { λ r. ⌜ r ≡ fits layout «image_len» ⌝ }
+{
+    if valid(layout) {
+        let expected = size(layout);
+        return image_len == expected;
+    }
+    false
+}

@@ -1,13 +1,13 @@
 -- Laws of sums and checksums: the loop that adds up bytes, the short way, and a short block as loaded.
 -- Assumes nothing.
 use Prim.Native.Nat.{ℕ, zero, suc, _+_, _-_, _%_, _≤_, _<_, _^_}
-use mathlib.Core.Path.{_≡_, refl, sym, ap, _∙_}
+use mathlib.Core.Path.{_≡_, refl, ap}
 use mathlib.Core.List.{List, [], _∷_, _++_}
 use native.Mathlib.Numerals.{add-one}
 use native.Mathlib.Omega.{arith}
 use lib.ListN.{length, drop, getD, set, replicate, drop-of-length-le}
 use lib.Seq.{drop-cons}
-use Rattle.dataflash.specs.Checksum.{total, checksum, checksumAfter, loaded}
+use Rattle.dataflash.specs.Checksum.{total, loaded}
 use Rattle.dataflash.specs.Laws.{ShortWay, LongWayModulo, ShortWayModulo, ChecksumLoaded}
 
 -- ---- sums

@@ -1,10 +1,9 @@
 -- Laws of the blocks of an image: what a store leaves, in the block and elsewhere.
 -- Assumes nothing.
 use Prim.Native.Nat.{ℕ, _+_, _-_, _≤_, _<_}
-use mathlib.Core.Path.{_≡_, refl, sym, ap, _∙_}
-use mathlib.Core.Bool.{Bool, true, false}
-use mathlib.Core.Logic.{_⊎_, inl, inr, ⊎-elim}
-use mathlib.Core.List.{List, [], _∷_, _++_, append-assoc}
+use mathlib.Core.Path.{_≡_, sym, ap, _∙_}
+use mathlib.Core.Logic.{_⊎_, ⊎-elim}
+use mathlib.Core.List.{List, _++_, append-assoc}
 use native.Mathlib.Nat.{add-sub-cancel-left}
 use native.Mathlib.Numerals.{add-one}
 use native.Mathlib.Omega.{arith}
@@ -12,12 +11,13 @@ use lib.Dec.{ltb}
 use lib.ListN.{length, take, drop, getD, set, length-take, length-drop, List·getD-append}
 use lib.Seq.{paste, paste-suc, length-paste, length-take-le, take-at, drop-at, getD-append-add, getD-take, getD-drop, ext-getD, length-paste-head}
 use borrow.Author.Tests.{ltb-true, ltb-false}
-use Rattle.dataflash.specs.Answer.{startOf, lengthOf}
+use Rattle.dataflash.specs.Answer.{lengthOf}
 use Rattle.dataflash.specs.Lookup.{blockSize, findBlock}
-use Rattle.dataflash.specs.Image.{partOf, blockBytes, storeBlock}
-use Rattle.dataflash.specs.Laws.{Inside, BlockLength, StoreLength, StoreHere, Within, StoreOutside, StoreElsewhere}
+use Rattle.dataflash.specs.Image.{blockBytes, storeBlock}
+use Rattle.dataflash.specs.Laws.{BlockLength, StoreLength, StoreHere, Within, StoreOutside, StoreElsewhere}
 use Rattle.dataflash.specs.declared.layout.Layout.{Layout}
 use Rattle.dataflash.specs.declared.lookup.Lookup.{Lookup}
+use Rattle.dataflash.proofs.Picks.{on-test, on-answer}
 use Rattle.dataflash.proofs.LookupLaws.{block-inside, blocks-apart}
 
 -- the loop that copies a window into an image: `e` is its invariant
@@ -75,11 +75,8 @@ module _ (f w : List ℕ) (at n : ℕ) (end : at + n ≤ length f) (most : n ≤
 
 pub block-length : BlockLength
 unfolding blockBytes
-block-length l image i b = go (findBlock l (length image) i b) refl
-  where
-    go : (a : Lookup) → findBlock l (length image) i b ≡ a → length (partOf image a) ≡ lengthOf a
-    go (Lookup.Found s k) p = part-length image s k (block-inside l (length image) i b s k p .end)
-    go (Lookup.Refused e) p = refl
+block-length l image i b =
+    on-answer (findBlock l (length image) i b) (λ s k p. rw p (part-length image s k (block-inside l (length image) i b s k p .end))) (λ e p. rw p)
 
 -- a store into block b of class i, of a lookup that found it, and of one that was refused
 module _ (l : Layout) (image : List ℕ) (i b : ℕ) (w : List ℕ) (lw : length w ≡ blockSize) where
@@ -91,57 +88,50 @@ module _ (l : Layout) (image : List ℕ) (i b : ℕ) (w : List ℕ) (lw : length
   unfolding storeBlock
   not-stored e p = rw p
 
+  module _ (s k : ℕ) (p : findBlock l (length image) i b ≡ Lookup.Found s k) where
+    end : s + k ≤ length image
+    end = block-inside l (length image) i b s k p .end
+
+    most : k ≤ length w
+    most = omega (arith, block-inside l (length image) i b s k p .most)
+
   stored-length : length (storeBlock l image i b w) ≡ length image
-  stored-length = go (findBlock l (length image) i b) refl
-    where
-      go : (a : Lookup) → findBlock l (length image) i b ≡ a → length (storeBlock l image i b w) ≡ length image
-      go (Lookup.Found s k) p =
-          let h = block-inside l (length image) i b s k p in
-          rw (stored s k p) (length-paste image s w k (h .end) (omega (arith, h .most)))
-      go (Lookup.Refused e) p = rw (not-stored e p)
+  stored-length =
+      on-answer (findBlock l (length image) i b) (λ s k p. rw (stored s k p) (length-paste image s w k (end s k p) (most s k p)))
+      (λ e p. rw (not-stored e p))
 
   stored-here : blockBytes l (storeBlock l image i b w) i b ≡ take (lengthOf (findBlock l (length image) i b)) w
   unfolding blockBytes
-  stored-here = go (findBlock l (length image) i b) refl
-    where
-      go : (a : Lookup) → findBlock l (length image) i b ≡ a
-          → partOf (storeBlock l image i b w) (findBlock l (length (storeBlock l image i b w)) i b) ≡ take (lengthOf (findBlock l (length image) i b)) w
-      go (Lookup.Found s k) p =
-          let h = block-inside l (length image) i b s k p in
-          rw (stored-length, p, stored s k p) (part-paste image w s k (h .end) (omega (arith, h .most)))
-      go (Lookup.Refused e) p = rw (stored-length, p)
+  stored-here =
+      on-answer (findBlock l (length image) i b)
+      (λ s k p. rw (stored-length, p, stored s k p) (part-paste image w s k (end s k p) (most s k p)))
+      (λ e p. rw (stored-length, p))
 
   stored-outside : (j : ℕ) → (Within (findBlock l (length image) i b) j → ⊥) → getD (storeBlock l image i b w) j 0 ≡ getD image j 0
-  stored-outside j h = go (findBlock l (length image) i b) refl
-    where
-      beside : (s k : ℕ) → ((s ≤ j) × (j < s + k) → ⊥) → (j < s) ⊎ (s + k ≤ j)
-      beside s k g = by-side (ltb j s) (ltb j (s + k)) refl refl
-        where
-          by-side : (t t′ : Bool) → ltb j s ≡ t → ltb j (s + k) ≡ t′ → (j < s) ⊎ (s + k ≤ j)
-          by-side true t′ e e′ = inl (ltb-true j s e)
-          by-side false true e e′ = absurd (g (ltb-false j s e, ltb-true j (s + k) e′))
-          by-side false false e e′ = inr (ltb-false j (s + k) e′)
-
-      go : (a : Lookup) → findBlock l (length image) i b ≡ a → getD (storeBlock l image i b w) j 0 ≡ getD image j 0
-      go (Lookup.Found s k) p =
-          let v = block-inside l (length image) i b s k p in
-          let most : k ≤ length w = omega (arith, v .most) in
-          rw (stored s k p) (⊎-elim (paste-below image w s k (v .end) most j) (paste-above image w s k (v .end) most j) (beside s k (rw p at h)))
-      go (Lookup.Refused e) p = rw (not-stored e p)
+  stored-outside j h =
+      on-answer (findBlock l (length image) i b)
+      (λ s k p.
+      let g : (s ≤ j) × (j < s + k) → ⊥ = rw p at h in
+      rw (stored s k p)
+      (on-test (ltb j s) (λ t. paste-below image w s k (end s k p) (most s k p) j (ltb-true j s t))
+      (λ t.
+      on-test (ltb j (s + k)) (λ u. absurd (g (ltb-false j s t, ltb-true j (s + k) u)))
+      (λ u. paste-above image w s k (end s k p) (most s k p) j (ltb-false j (s + k) u)))))
+      (λ e p. rw (not-stored e p))
 
   stored-elsewhere : (i′ b′ : ℕ) → ((i ≡ i′) × (b ≡ b′) → ⊥) → blockBytes l (storeBlock l image i b w) i′ b′ ≡ blockBytes l image i′ b′
   unfolding blockBytes
-  stored-elsewhere i′ b′ d = rw stored-length (go (findBlock l (length image) i b) (findBlock l (length image) i′ b′) refl refl)
-    where
-      go : (a a′ : Lookup) → findBlock l (length image) i b ≡ a → findBlock l (length image) i′ b′ ≡ a′
-          → partOf (storeBlock l image i b w) (findBlock l (length image) i′ b′) ≡ partOf image (findBlock l (length image) i′ b′)
-      go (Lookup.Refused e) a′ p p′ = rw (not-stored e p)
-      go (Lookup.Found s k) (Lookup.Refused e) p p′ = rw p′
-      go (Lookup.Found s k) (Lookup.Found s′ k′) p p′ =
-          let v = block-inside l (length image) i b s k p in
-          let v′ = block-inside l (length image) i′ b′ s′ k′ p′ in
-          rw (p′, stored s k p)
-          (part-apart image w s k (v .end) (omega (arith, v .most)) s′ k′ (v′ .end) (blocks-apart l (length image) i b s k i′ b′ s′ k′ p p′ d))
+  stored-elsewhere i′ b′ d =
+      rw stored-length
+      (on-answer (findBlock l (length image) i b)
+      (λ s k p.
+      on-answer (findBlock l (length image) i′ b′)
+      (λ s′ k′ p′.
+      rw (p′, stored s k p)
+      (part-apart image w s k (end s k p) (most s k p) s′ k′ (block-inside l (length image) i′ b′ s′ k′ p′ .end)
+      (blocks-apart l (length image) i b s k i′ b′ s′ k′ p p′ d)))
+      (λ e p′. rw p′))
+      (λ e p. rw (not-stored e p)))
 
 pub store-length : StoreLength
 store-length = stored-length

@@ -1,19 +1,18 @@
--- The classes of a layout as the code goes through them, by the index k of an entry: one turn of each loop, and its end.
+-- Laws of layouts: their classes as the code goes through them, by the index k of an entry, and what a valid layout has.
 -- Assumes nothing.
-use Prim.Native.Nat.{ℕ, zero, suc, _+_, _-_, _*_, _≤_, _<_, min}
+use Prim.Native.Nat.{ℕ, zero, suc, _+_, _-_, _≤_, _<_, min}
 use mathlib.Core.Path.{_≡_, refl, sym, ap, _∙_}
 use mathlib.Core.Bool.{Bool, true, false, cond, true≢false}
 use mathlib.Core.List.{List, [], _∷_}
 use native.Mathlib.Numerals.{add-one}
 use native.Mathlib.Omega.{arith}
 use lib.Dec.{eqb, leb}
-use lib.ListN.{length, take, drop, getD, length-take, drop-of-length-le}
+use lib.ListN.{length, drop, getD, length-take, drop-of-length-le}
 use lib.Seq.{drop-cons, getD-take}
 use borrow.Author.Tests.{eq-eqb, ne-eqb, eqb-true, leb-true}
 use Rattle.dataflash.specs.Answer.{unknownClass}
-use Rattle.dataflash.specs.Choice.{all}
-use Rattle.dataflash.specs.Layout.{maxClasses, maxClassLength, maxImageLength, infoClass, infoLength, keyClass, minKeyLength}
-use Rattle.dataflash.specs.Layout.{Class, paired, classes, sizeOf, size, locate, ordered, lengthIn, valid, fits}
+use Rattle.dataflash.specs.Layout.{maxClasses, maxImageLength, infoClass, infoLength, keyClass, minKeyLength}
+use Rattle.dataflash.specs.Layout.{Class, paired, classes, sizeOf, size, locate, inOrder, ordered, lengthIn, hasFixedClasses, valid, fits}
 use Rattle.dataflash.specs.declared.layout.Layout.{Layout}
 use Rattle.dataflash.specs.declared.lookup.Lookup.{Lookup}
 
@@ -40,7 +39,7 @@ pub record Whole (l : Layout) : Type 0 where
 module _ (l : Layout) (k : ℕ) (w : Whole l) where
   length-classes : length (classes l) ≡ l .count
   unfolding classes
-  length-classes = let p = w .ids in let q = w .lengths in let u = w .used in simp (length-take, length-paired) (omega arith)
+  length-classes = simp (length-take, length-paired) (omega arith)
 
   pub classes-end : l .count ≤ k → drop k (classes l) ≡ []
   classes-end h = drop-of-length-le (classes l) {i = k} (omega (arith, length-classes))
@@ -48,9 +47,6 @@ module _ (l : Layout) (k : ℕ) (w : Whole l) where
   pub classes-next : k < l .count → drop k (classes l) ≡ entry (getD (l .ids) k 0) (getD (l .lengths) k 0) ∷ drop (k + 1) (classes l)
   unfolding classes
   classes-next h =
-      let p = w .ids in
-      let q = w .lengths in
-      let u = w .used in
       let n : k < length (classes l) = omega (arith, length-classes) in
       rw (add-one, drop-cons (classes l) k (entry 0 0), getD-take (l .count) (paired (l .ids) (l .lengths)) k (entry 0 0) h, getD-paired (l .ids) (l .lengths) k (omega arith) (omega arith))
 
@@ -81,34 +77,19 @@ module _ (l : Layout) (k sum z : ℕ) (w : Whole l) (e : sum + sizeOf (drop k (c
 
 -- ---- the order of the identifiers
 
--- a test after three others
-all-on : (a b c d : Bool) → all (a ∷ b ∷ c ∷ []) ≡ true → d ≡ all (a ∷ b ∷ c ∷ d ∷ [])
-all-on true true true true e = refl
-all-on true true true false e = refl
-all-on true true false d e = absurd (true≢false (sym e))
-all-on true false c d e = absurd (true≢false (sym e))
-all-on false b c d e = absurd (true≢false (sym e))
-
-all-not : (a b c d : Bool) → all (a ∷ b ∷ c ∷ []) ≡ false → false ≡ all (a ∷ b ∷ c ∷ d ∷ [])
-all-not true true true d e = absurd (true≢false e)
-all-not true true false d e = refl
-all-not true false c d e = refl
-all-not false b c d e = refl
-
 module _ (l : Layout) (k lo : ℕ) (z : Bool) (w : Whole l) (e : ordered lo (drop k (classes l)) ≡ z) where
   pub ordered-end : l .count ≤ k → true ≡ z
   ordered-end h = rw (classes-end l k w h) at e
 
-  module _ (i n : ℕ) (t : Bool) (p : i ≡ getD (l .ids) k 0) (q : n ≡ getD (l .lengths) k 0) (h : k < l .count)
-      (g : t ≡ all (leb lo i ∷ leb 1 n ∷ leb n maxClassLength ∷ [])) where
-    ordered-turn : all (leb lo i ∷ leb 1 n ∷ leb n maxClassLength ∷ ordered (i + 1) (drop (k + 1) (classes l)) ∷ []) ≡ z
-    ordered-turn = rw (classes-next l k w h, ← p, ← q) at e
+  module _ (i n : ℕ) (t : Bool) (p : i ≡ getD (l .ids) k 0) (q : n ≡ getD (l .lengths) k 0) (h : k < l .count) (g : t ≡ inOrder lo (entry i n)) where
+    ordered-turn : cond t (ordered (i + 1) (drop (k + 1) (classes l))) false ≡ z
+    ordered-turn = rw (g, p, q) (rw (classes-next l k w h) at e)
 
     pub ordered-on : t ≡ true → ordered (i + 1) (drop (k + 1) (classes l)) ≡ z
-    ordered-on r = all-on (leb lo i) (leb 1 n) (leb n maxClassLength) (ordered (i + 1) (drop (k + 1) (classes l))) (sym g ∙ r) ∙ ordered-turn
+    ordered-on r = rw r at ordered-turn
 
     pub ordered-not : t ≡ false → false ≡ z
-    ordered-not r = all-not (leb lo i) (leb 1 n) (leb n maxClassLength) (ordered (i + 1) (drop (k + 1) (classes l))) (sym g ∙ r) ∙ ordered-turn
+    ordered-not r = rw r at ordered-turn
 
 -- ---- what a valid layout has
 
@@ -131,15 +112,16 @@ valid-parts l e =
     let e₂ = all-true (leb (l .count) maxClasses) _ (e₁ .1) in
     let e₃ = all-true (ordered 0 (classes l)) _ (e₂ .1) in
     let e₄ = all-true (leb (size l) maxImageLength) _ (e₃ .1) in
-    let e₅ = all-true (eqb (lengthIn l infoClass) infoLength) _ (e₄ .1) in
-    let e₆ = all-true (leb minKeyLength (lengthIn l keyClass)) _ (e₅ .1) in
+    let e₅ = all-true (hasFixedClasses l) _ (e₄ .1) in
+    let e₆ = all-true (eqb (lengthIn l infoClass) infoLength) _ (e₅ .0) in
+    let e₇ = all-true (leb minKeyLength (lengthIn l keyClass)) _ (e₆ .1) in
     record {
       some = leb-true _ _ (e₁ .0);
       used = leb-true _ _ (e₂ .0);
       order = e₃ .0;
       small = leb-true _ _ (e₄ .0);
-      info = eqb-true _ _ (e₅ .0);
-      keys = leb-true _ _ (e₆ .0);
+      info = eqb-true _ _ (e₆ .0);
+      keys = leb-true _ _ (e₇ .0);
     }
 
 pub fits-parts : (l : Layout) (n : ℕ) → fits l n ≡ true → (valid l ≡ true) × (n ≡ size l)

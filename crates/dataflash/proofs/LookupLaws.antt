@@ -1,22 +1,23 @@
 -- Laws of the class search and of the block lookup: what is found lies inside the image, and two blocks lie apart.
 -- Assumes nothing.
 use Prim.Native.Nat.{ℕ, _+_, _-_, _*_, _^_, _≤_, _<_, min}
-use mathlib.Core.Path.{_≡_, refl, sym, ap, subst, _∙_}
-use mathlib.Core.Bool.{Bool, true, false, cond}
+use mathlib.Core.Path.{_≡_, refl, sym, _∙_}
+use mathlib.Core.Bool.{Bool, true, false}
 use mathlib.Core.Logic.{_⊎_, inl, inr, ⊎-elim}
 use mathlib.Core.List.{List, [], _∷_}
 use native.Mathlib.Omega.{arith}
-use lib.Dec.{eqb, leb, ltb}
+use lib.Dec.{eqb, ltb}
 use mir.Syntax.{w64}
 use mir.Val.{Fits}
 use borrow.Author.Tests.{eqb-true, eqb-false, ltb-true, ltb-false, eq-eqb, lt-ltb, le-ltb}
-use Rattle.dataflash.specs.Answer.{ifFound, lengthOf, unknownClass, unknownBlock, invalidLayout}
-use Rattle.dataflash.specs.Layout.{infoClass, keyClass, Class, classes, sizeOf, size, locate, lengthIn, valid, fits}
+use Rattle.dataflash.specs.Answer.{lengthOf, unknownClass, unknownBlock, invalidLayout}
+use Rattle.dataflash.specs.Layout.{maxImageLength, infoClass, keyClass, Class, classes, sizeOf, size, locate, lengthIn, valid, fits}
 use Rattle.dataflash.specs.Lookup.{blockSize, blockIn, findBlock}
-use Rattle.dataflash.specs.Laws.{Inside, BlockInside, BlocksApart, InfoBlocks, KeyBlock}
+use Rattle.dataflash.specs.Laws.{BlockInside, BlocksApart, InfoBlocks, KeyBlock}
 use Rattle.dataflash.specs.declared.layout.Layout.{Layout}
 use Rattle.dataflash.specs.declared.lookup.Lookup.{Lookup}
-use Rattle.dataflash.proofs.LayoutLaws.{Valid, valid-parts, fits-parts}
+use Rattle.dataflash.proofs.Picks.{on-test, on-answer}
+use Rattle.dataflash.proofs.LayoutLaws.{valid-parts, fits-parts}
 
 -- ---- one block of a class, by its offset o in the class
 
@@ -32,17 +33,25 @@ module _ (s n b o : ℕ) (p : o ≡ blockSize * b) where
 refused-found : (e s k : ℕ) → Lookup.Refused e ≡ Lookup.Found s k → ⊥
 refused-found e s k p = let z : _≡_ {A = ℕ} 0 1 = cc in omega arith
 
+-- the search in a list of classes is over, or goes on in the rest
+module _ (at : ℕ) (c : Class) (cs : List Class) (i : ℕ) where
+  locate-first : eqb (c .id) i ≡ true → locate at (c ∷ cs) i ≡ Lookup.Found at (c .len)
+  locate-first h = rw h
+
+  locate-rest : eqb (c .id) i ≡ false → locate at (c ∷ cs) i ≡ locate (at + c .len) cs i
+  locate-rest h = rw h
+
+same-found : (a : Lookup) (s k s′ k′ : ℕ) → a ≡ Lookup.Found s k → a ≡ Lookup.Found s′ k′ → (s ≡ s′) × (k ≡ k′)
+same-found a s k s′ k′ p q = (cc, cc)
+
 -- a class lies inside the bytes of the classes
 pub locate-inside : (at : ℕ) (cs : List Class) (i s k : ℕ) → locate at cs i ≡ Lookup.Found s k → (at ≤ s) × (s + k ≤ at + sizeOf cs)
 locate-inside at [] i s k p = absurd (refused-found unknownClass s k p)
-locate-inside at (c ∷ cs) i s k p = go (eqb (c .id) i) (locate-inside (at + c .len) cs i s k) p
-  where
-    go : (t : Bool) → (locate (at + c .len) cs i ≡ Lookup.Found s k → (at + c .len ≤ s) × (s + k ≤ at + c .len + sizeOf cs))
-        → cond t (Lookup.Found at (c .len)) (locate (at + c .len) cs i) ≡ Lookup.Found s k → (at ≤ s) × (s + k ≤ at + (c .len + sizeOf cs))
-    go true h q = let a : at ≡ s = cc in let b : c .len ≡ k = cc in omega arith
-    go false h q = let g = h q in omega arith
+locate-inside at (c ∷ cs) i s k p =
+    on-test (eqb (c .id) i) (λ h. let g = same-found _ at (c .len) s k (locate-first at c cs i h) p in omega arith)
+    (λ h. let g = locate-inside (at + c .len) cs i s k (sym (locate-rest at c cs i h) ∙ p) in omega arith)
 
-pub fits-start : (l : Layout) (n i s k : ℕ) (t : Bool) (a : Lookup) → t ≡ fits l n → t ≡ true → a ≡ locate 0 (classes l) i → a ≡ Lookup.Found s k → s ≤ 4096
+pub fits-start : (l : Layout) (n i s k : ℕ) (t : Bool) (a : Lookup) → t ≡ fits l n → t ≡ true → a ≡ locate 0 (classes l) i → a ≡ Lookup.Found s k → s ≤ maxImageLength
 fits-start l n i s k t a p q r u =
     let v = valid-parts l (fits-parts l n (sym p ∙ q) .0) .small in
     let w = locate-inside 0 (classes l) i s k (sym r ∙ u) in
@@ -53,27 +62,20 @@ locate-apart : (at : ℕ) (cs : List Class) (i s k i′ s′ k′ : ℕ) → loc
     → (i ≡ i′ → ⊥) → (s + k ≤ s′) ⊎ (s′ + k′ ≤ s)
 locate-apart at [] i s k i′ s′ k′ p p′ d = absurd (refused-found unknownClass s k p)
 locate-apart at (c ∷ cs) i s k i′ s′ k′ p p′ d =
-    go (eqb (c .id) i) (eqb (c .id) i′) refl refl p p′ (λ q q′. locate-apart (at + c .len) cs i s k i′ s′ k′ q q′ d)
-  where
-    rest : ℕ → Lookup
-    rest j = locate (at + c .len) cs j
-
-    go : (t t′ : Bool) → eqb (c .id) i ≡ t → eqb (c .id) i′ ≡ t′
-        → cond t (Lookup.Found at (c .len)) (rest i) ≡ Lookup.Found s k → cond t′ (Lookup.Found at (c .len)) (rest i′) ≡ Lookup.Found s′ k′
-        → (rest i ≡ Lookup.Found s k → rest i′ ≡ Lookup.Found s′ k′ → (s + k ≤ s′) ⊎ (s′ + k′ ≤ s))
-        → (s + k ≤ s′) ⊎ (s′ + k′ ≤ s)
-    go true true e e′ q q′ h = absurd (d (sym (eqb-true (c .id) i e) ∙ eqb-true (c .id) i′ e′))
-    go true false e e′ q q′ h =
-        let a : at ≡ s = cc in
-        let b : c .len ≡ k = cc in
-        let g = locate-inside (at + c .len) cs i′ s′ k′ q′ in
-        inl (omega arith)
-    go false true e e′ q q′ h =
-        let a : at ≡ s′ = cc in
-        let b : c .len ≡ k′ = cc in
-        let g = locate-inside (at + c .len) cs i s k q in
-        inr (omega arith)
-    go false false e e′ q q′ h = h q q′
+    on-test (eqb (c .id) i)
+    (λ h.
+    on-test (eqb (c .id) i′) (λ h′. absurd (d (sym (eqb-true (c .id) i h) ∙ eqb-true (c .id) i′ h′)))
+    (λ h′.
+    let g = same-found _ at (c .len) s k (locate-first at c cs i h) p in
+    let g′ = locate-inside (at + c .len) cs i′ s′ k′ (sym (locate-rest at c cs i′ h′) ∙ p′) in
+    inl (omega arith)))
+    (λ h.
+    on-test (eqb (c .id) i′)
+    (λ h′.
+    let g′ = same-found _ at (c .len) s′ k′ (locate-first at c cs i′ h′) p′ in
+    let g = locate-inside (at + c .len) cs i s k (sym (locate-rest at c cs i h) ∙ p) in
+    inr (omega arith))
+    (λ h′. locate-apart (at + c .len) cs i s k i′ s′ k′ (sym (locate-rest at c cs i h) ∙ p) (sym (locate-rest at c cs i′ h′) ∙ p′) d))
 
 -- ---- a block that was found
 
@@ -89,20 +91,19 @@ pub record Placed (l : Layout) (n i b s k : ℕ) : Type 0 where
 
 pub placed : (l : Layout) (n i b s k : ℕ) → findBlock l n i b ≡ Lookup.Found s k → Placed l n i b s k
 unfolding findBlock
-placed l n i b s k p = go (fits l n) (locate 0 (classes l) i) refl refl p
-  where
-    within : (base len : ℕ) (t : Bool) → fits l n ≡ true → locate 0 (classes l) i ≡ Lookup.Found base len → ltb (blockSize * b) len ≡ t
-        → cond t (Lookup.Found (base + blockSize * b) (min blockSize (len - blockSize * b))) (Lookup.Refused unknownBlock) ≡ Lookup.Found s k
-        → Placed l n i b s k
-    within base len true f e h q = record { base = base; len = len; fitting = f; class = e; below = ltb-true _ _ h; start = cc; size = cc }
-    within base len false f e h q = absurd (refused-found unknownBlock s k q)
-
-    go : (t : Bool) (a : Lookup) → fits l n ≡ t → locate 0 (classes l) i ≡ a
-        → cond t (ifFound a (λ base len. blockIn base len b) (λ e. Lookup.Refused e)) (Lookup.Refused invalidLayout) ≡ Lookup.Found s k
-        → Placed l n i b s k
-    go true (Lookup.Found base len) f e q = within base len (ltb (blockSize * b) len) f e refl q
-    go true (Lookup.Refused x) f e q = absurd (refused-found x s k q)
-    go false a f e q = absurd (refused-found invalidLayout s k q)
+placed l n i b s k p =
+    on-test (fits l n)
+    (λ f.
+    on-answer (locate 0 (classes l) i)
+    (λ base len e.
+    let q : blockIn base len b ≡ Lookup.Found s k = rw (f, e) at p in
+    on-test (ltb (blockSize * b) len)
+    (λ h.
+    let g = same-found _ (base + blockSize * b) (min blockSize (len - blockSize * b)) s k (rw h) q in
+    record { base = base; len = len; fitting = f; class = e; below = ltb-true _ _ h; start = sym (g .0); size = sym (g .1) })
+    (λ h. absurd (refused-found unknownBlock s k (rw h at q))))
+    (λ x e. absurd (refused-found x s k (rw (f, e) at p))))
+    (λ f. absurd (refused-found invalidLayout s k (rw f at p)))
 
 pub block-inside : BlockInside
 block-inside l n i b s k p =
@@ -114,14 +115,9 @@ block-inside l n i b s k p =
 -- two blocks of one class, and two of different classes
 module _ (l : Layout) (n i b s k i′ b′ s′ k′ : ℕ) (v : Placed l n i b s k) (v′ : Placed l n i′ b′ s′ k′) where
   same-class : i ≡ i′ → (b ≡ b′ → ⊥) → (s + k ≤ s′) ⊎ (s′ + k′ ≤ s)
-  same-class e d = go (ltb b b′) refl
-    where
-      base : v .base ≡ v′ .base
-      base = let p = v .class in let p′ = v′ .class in let q : locate 0 (classes l) i ≡ locate 0 (classes l) i′ = rw e in cc
-
-      go : (t : Bool) → ltb b b′ ≡ t → (s + k ≤ s′) ⊎ (s′ + k′ ≤ s)
-      go true h = inl (omega (arith, ltb-true, base))
-      go false h = inr (omega (arith, ltb-false, base))
+  same-class e d =
+      let base : v .base ≡ v′ .base = same-found _ (v .base) (v .len) (v′ .base) (v′ .len) (v .class) (rw e (v′ .class)) .0 in
+      on-test (ltb b b′) (λ h. inl (omega (arith, ltb-true b b′ h))) (λ h. inr (omega (arith, ltb-false b b′ h)))
 
   other-class : (i ≡ i′ → ⊥) → (s + k ≤ s′) ⊎ (s′ + k′ ≤ s)
   other-class d =
@@ -129,17 +125,12 @@ module _ (l : Layout) (n i b s k i′ b′ s′ k′ : ℕ) (v : Placed l n i b 
       (locate-apart 0 (classes l) i (v .base) (v .len) i′ (v′ .base) (v′ .len) (v .class) (v′ .class) d)
 
 pub blocks-apart : BlocksApart
-blocks-apart l n i b s k i′ b′ s′ k′ p p′ d = go (eqb i i′) refl
-  where
-    v : Placed l n i b s k
-    v = placed l n i b s k p
-
-    v′ : Placed l n i′ b′ s′ k′
-    v′ = placed l n i′ b′ s′ k′ p′
-
-    go : (t : Bool) → eqb i i′ ≡ t → (s + k ≤ s′) ⊎ (s′ + k′ ≤ s)
-    go true e = same-class l n i b s k i′ b′ s′ k′ v v′ (eqb-true i i′ e) (λ q. d (eqb-true i i′ e, q))
-    go false e = other-class l n i b s k i′ b′ s′ k′ v v′ (eqb-false i i′ e)
+blocks-apart l n i b s k i′ b′ s′ k′ p p′ d =
+    let v = placed l n i b s k p in
+    let v′ = placed l n i′ b′ s′ k′ p′ in
+    on-test (eqb i i′)
+    (λ h. let e = eqb-true i i′ h in same-class l n i b s k i′ b′ s′ k′ v v′ e (λ q. d (e, q)))
+    (λ h. other-class l n i b s k i′ b′ s′ k′ v v′ (eqb-false i i′ h))
 
 -- ---- blocks that every valid layout has
 
@@ -155,12 +146,9 @@ module _ (l : Layout) (v : valid l ≡ true) where
 
   -- of a class that has bytes
   block-in-class : (i b : ℕ) → blockSize * b < lengthIn l i → lengthOf (findBlock l (size l) i b) ≡ min blockSize (lengthIn l i - blockSize * b)
-  block-in-class i b = go (locate 0 (classes l) i) refl
-    where
-      go : (a : Lookup) → locate 0 (classes l) i ≡ a → blockSize * b < lengthIn l i
-          → lengthOf (findBlock l (size l) i b) ≡ min blockSize (lengthIn l i - blockSize * b)
-      go (Lookup.Found s n) p h = rw p (block-of i b s n p (rw p at h))
-      go (Lookup.Refused e) p h = absurd (let g : blockSize * b < 0 = rw p at h in omega arith)
+  block-in-class i b h =
+      on-answer (locate 0 (classes l) i) (λ s n p. rw p (block-of i b s n p (rw p at h)))
+      (λ e p. absurd (let g : blockSize * b < 0 = rw p at h in omega arith))
 
 pub info-blocks : InfoBlocks
 info-blocks l b v h = let e = valid-parts l v .info in block-in-class l v infoClass b (omega arith) ∙ omega arith

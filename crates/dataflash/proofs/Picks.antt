@@ -75,3 +75,13 @@ pub call-error : (e : ℕ) (a k : Lookup) → k ≡ a → e ≡ errorOf k → e 
 call-error e a k p q = rw p at q
 
 pub ruleset calls = (call-true, call-false, call-eq, call-ne, call-le, call-gt, call-last-eq, call-last-le, call-found, call-refused, call-error)
+
+-- a proof by the cases of a test or of an answer, which keeps what the case says
+module _ {P : Type 0} where
+  pub on-test : (t : Bool) → (t ≡ true → P) → (t ≡ false → P) → P
+  on-test true f g = f refl
+  on-test false f g = g refl
+
+  pub on-answer : (a : Lookup) → ((s k : ℕ) → a ≡ Lookup.Found s k → P) → ((e : ℕ) → a ≡ Lookup.Refused e → P) → P
+  on-answer (Lookup.Found s k) f g = f s k refl
+  on-answer (Lookup.Refused e) f g = g e refl

@@ -1,4 +1,4 @@
--- What the definitions amount to, claim by claim. The proofs are in proofs/, under the claims' names in small letters.
+-- What the definitions amount to, claim by claim. proofs/Laws.antt has a proof of each, under its name in small letters.
 -- Assumes nothing.
 use Prim.Native.Nat.{ℕ, _+_, _%_, _≤_, _<_}
 use mathlib.Core.Path.{_≡_}
@@ -64,10 +64,11 @@ StoreHere =
     (l : Layout) (image : List ℕ) (i b : ℕ) (w : List ℕ) → length w ≡ blockSize
     → blockBytes l (storeBlock l image i b w) i b ≡ take (lengthOf (findBlock l (length image) i b)) w
 
--- every byte outside the block is what it was
+-- byte j is one of those that a lookup found; none is where it was refused
 abbrev pub Within : Lookup → ℕ → Type 0
 Within a j = (startOf a ≤ j) × (j < startOf a + lengthOf a)
 
+-- every byte outside the block is what it was
 abbrev pub StoreOutside : Type 0
 StoreOutside =
     (l : Layout) (image : List ℕ) (i b : ℕ) (w : List ℕ) → length w ≡ blockSize

@@ -1,7 +1,7 @@
 -- Layouts. Document 01, "Layout and image", first point.
 -- Assumes nothing.
 use Prim.Native.Nat.{ℕ, _+_}
-use mathlib.Core.Bool.{Bool, true, cond}
+use mathlib.Core.Bool.{Bool, true, false, cond}
 use mathlib.Core.List.{List, [], _∷_}
 use lib.Dec.{eqb, leb}
 use lib.ListN.{take}
@@ -41,6 +41,7 @@ pub record Class : Type 0 where
   pub id : ℕ
   pub len : ℕ
 
+-- identifiers and lengths, entry by entry
 abbrev pub paired : List ℕ → List ℕ → List Class
 paired [] ns = []
 paired (i ∷ is) [] = []
@@ -64,18 +65,25 @@ abbrev pub locate : ℕ → List Class → ℕ → Lookup
 locate at [] i = Lookup.Refused unknownClass
 locate at (c ∷ cs) i = cond (eqb (c .id) i) (Lookup.Found at (c .len)) (locate (at + c .len) cs i)
 
--- ---- which layouts are valid (document 01: sound)
+-- ---- which layouts are valid
 
--- 01: "identifiers 0 to 255, strictly ascending, each 1 to 512 bytes long". The first is at least lo; 0 to 255 is the type of an entry
+-- 01: "identifiers 0 to 255, strictly ascending, each 1 to 512 bytes long". The next identifier is at least lo; 0 to 255 is the type of an entry
+abbrev pub inOrder : ℕ → Class → Bool
+inOrder lo c = all (leb lo (c .id) ∷ leb 1 (c .len) ∷ leb (c .len) maxClassLength ∷ [])
+
 abbrev pub ordered : ℕ → List Class → Bool
 ordered lo [] = true
-ordered lo (c ∷ cs) = all (leb lo (c .id) ∷ leb 1 (c .len) ∷ leb (c .len) maxClassLength ∷ ordered (c .id + 1) cs ∷ [])
+ordered lo (c ∷ cs) = cond (inOrder lo c) (ordered (c .id + 1) cs) false
 
 -- how long the class with an identifier is, 0 where there is none
 abbrev pub lengthIn : Layout → ℕ → ℕ
 lengthIn l i = lengthOf (locate 0 (classes l) i)
 
--- 01: "A layout is 1 to 32 classes, .. 4,096 bytes together at most. Class 58 is present with exactly 96 bytes. Class 112 is present with at least 28."
+-- 01: "Class 58 is present with exactly 96 bytes. Class 112 is present with at least 28."
+abbrev pub hasFixedClasses : Layout → Bool
+hasFixedClasses l = all (eqb (lengthIn l infoClass) infoLength ∷ leb minKeyLength (lengthIn l keyClass) ∷ [])
+
+-- 01: "A layout is 1 to 32 classes, identifiers .., 4,096 bytes together at most. Class 58 .. Class 112 .."
 unfoldable pub valid : Layout → Bool
 valid l =
     all
@@ -83,8 +91,7 @@ valid l =
     ∷ leb (l .count) maxClasses
     ∷ ordered 0 (classes l)
     ∷ leb (size l) maxImageLength
-    ∷ eqb (lengthIn l infoClass) infoLength
-    ∷ leb minKeyLength (lengthIn l keyClass)
+    ∷ hasFixedClasses l
     ∷ [])
 
 -- refusal 10: "layout breaks its rules, or image length differs from it"

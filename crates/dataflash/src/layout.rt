@@ -4,11 +4,7 @@ use crate::lookup::Lookup;
 use crate::lookup::locate;
 ghost use mathlib.Core.Path.{_≡_};
 ghost use Prim.Native.Nat.{_≤_, _<_};
-ghost use mathlib.Core.List.{[], _∷_};
-ghost use lib.Dec.{eqb, leb};
-ghost use Rattle.dataflash.specs.Layout.{maxClasses, maxClassLength, infoClass, infoLength, keyClass, minKeyLength};
-ghost use Rattle.dataflash.specs.Choice.{all};
-ghost use Rattle.dataflash.specs.Layout.{classes, ordered, size, lengthIn, valid, fits};
+ghost use Rattle.dataflash.specs.Layout.{maxClasses, classes, inOrder, ordered, size, lengthIn, hasFixedClasses, valid, fits};
 
 pub const MAX_CLASSES: usize = 32;
 
@@ -48,8 +44,8 @@ pub(crate) fn wide16(x: u16) -> usize
 }
 
 // Whether one entry keeps the identifiers ascending, its own being at least `lo`, and has a length in range.
-fn entry_ok(lo: usize, id: usize, len: usize) -> bool
-    ensures { λ r. ⌜ r ≡ all (leb lo id ∷ leb 1 len ∷ leb len maxClassLength ∷ []) ⌝ }
+fn in_order(lo: usize, id: usize, len: usize) -> bool
+    ensures { λ r. ⌜ r ≡ inOrder lo (record { id = id; len = len }) ⌝ }
 {
     if lo <= id {
         if 1 <= len {
@@ -68,7 +64,7 @@ fn ordered(layout: Layout) -> bool
     let mut k = 0;
     while k < layout.count {
         let id = wide8(layout.ids[k]);
-        if entry_ok(lo, id, wide16(layout.lengths[k])) {
+        if in_order(lo, id, wide16(layout.lengths[k])) {
             lo = id + 1;
             k += 1;
         } else {
@@ -106,7 +102,7 @@ fn length_in(layout: Layout, class: u8) -> usize
 // Whether the two classes that every layout has are there, as long as they must be.
 fn has_fixed_classes(layout: Layout) -> bool
     requires { ⌜ layout .count ≤ maxClasses ⌝ }
-    ensures { λ r. ⌜ r ≡ all (eqb (lengthIn layout infoClass) infoLength ∷ leb minKeyLength (lengthIn layout keyClass) ∷ []) ⌝ }
+    ensures { λ r. ⌜ r ≡ hasFixedClasses layout ⌝ }
 {
     if length_in(layout, INFO_CLASS) == INFO_LENGTH {
         return MIN_KEY_LENGTH <= length_in(layout, KEY_CLASS);

@@ -1,7 +1,7 @@
 -- `dataflash::lookup::locate` meets its contract. The invariant: what is left to search gives what the whole gives.
 -- Assumes nothing.
 use mathlib.Core.Path.{_≡_}
-use Prim.Native.Nat.{_+_, _-_, _*_, _≤_}
+use Prim.Native.Nat.{_-_, _*_, _≤_}
 use lib.ListN.{drop}
 use borrow.Author.Needs.{needs}
 use Rattle.dataflash.specs.Layout.{classes, locate}

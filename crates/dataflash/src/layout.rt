@@ -117,12 +117,11 @@ pub fn valid(layout: Layout) -> bool
     if layout.count < 1 {
         return false;
     }
-    if MAX_CLASSES < layout.count {
-        return false;
-    }
-    if ordered(layout) {
-        if size(layout) <= MAX_IMAGE_LENGTH {
-            return has_fixed_classes(layout);
+    if layout.count <= MAX_CLASSES {
+        if ordered(layout) {
+            if size(layout) <= MAX_IMAGE_LENGTH {
+                return has_fixed_classes(layout);
+            }
         }
     }
     false

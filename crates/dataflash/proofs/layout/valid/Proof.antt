@@ -12,10 +12,10 @@ valid-spec =
     tie.close
     (tie.spec
     (λ c. search (picks, calls) depth 12)
+    (λ c κs. search needs)
+    (λ c κs. search needs)
+    (λ c κs. search needs)
     (λ c. search (picks, calls) depth 12)
-    (λ c κs. search needs)
-    (λ c κs. search needs)
-    (λ c κs. search needs)
     (λ c. search (picks, calls) depth 12)
     (λ c. search (picks, calls) depth 12)
     (λ c. search (picks, calls) depth 12))

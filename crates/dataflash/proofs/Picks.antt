@@ -3,7 +3,7 @@
 -- Assumes nothing.
 use Prim.Native.Nat.{ℕ, _<_, _≤_}
 use borrow.Author.Tests.{eq-eqb, ne-eqb, lt-ltb, le-ltb, le-leb, lt-leb}
-use mathlib.Core.Path.{_≡_, refl}
+use mathlib.Core.Path.{_≡_, refl, sym, _∙_}
 use mathlib.Core.Bool.{Bool, true, false, cond}
 use lib.Dec.{eqb, ltb, leb}
 use Rattle.dataflash.specs.Answer.{ifFound, errorOf}
@@ -45,23 +45,23 @@ module _ {A : Type 0} (z x y : A) (t k : Bool) (p : k ≡ t) where
 
 module _ {A : Type 0} (z x y : A) (j k v : ℕ) (p : k ≡ j) where
   pub call-eq : k ≡ v → z ≡ x → z ≡ cond (eqb j v) x y
-  call-eq q e = rw (← p, eq-eqb k v q) e
+  call-eq q e = pick-eq z x y j v (sym p ∙ q) e
 
   pub call-ne : (k ≡ v → ⊥) → z ≡ y → z ≡ cond (eqb j v) x y
-  call-ne q e = rw (← p, ne-eqb k v q) e
+  call-ne q e = pick-ne z x y j v (λ r. q (p ∙ r)) e
 
   pub call-le : k ≤ v → z ≡ x → z ≡ cond (leb j v) x y
-  call-le q e = rw (← p, le-leb k v q) e
+  call-le q e = pick-le z x y j v (rw p at q) e
 
   pub call-gt : v < k → z ≡ y → z ≡ cond (leb j v) x y
-  call-gt q e = rw (← p, lt-leb k v q) e
+  call-gt q e = pick-gt z x y j v (rw p at q) e
 
 module _ (j k v : ℕ) (p : k ≡ j) where
   pub call-last-eq : eqb v k ≡ cond (eqb v j) true false
-  call-last-eq = rw (← p) (pick-last (eqb v k) (eqb v k) refl)
+  call-last-eq = pick-last (eqb v k) (eqb v j) (rw p)
 
   pub call-last-le : leb v k ≡ cond (leb v j) true false
-  call-last-le = rw (← p) (pick-last (leb v k) (leb v k) refl)
+  call-last-le = pick-last (leb v k) (leb v j) (rw p)
 
 module _ {A : Type 0} (z : A) (f : ℕ → ℕ → A) (r : ℕ → A) (a k : Lookup) (p : k ≡ a) where
   pub call-found : (s n : ℕ) → k ≡ Lookup.Found s n → z ≡ f s n → z ≡ ifFound a f r

@@ -1,4 +1,5 @@
-// The blocks of an image: handed out as parts of it, and stored into.
+// The blocks of an image, by the lookup: handed out as parts of the lent slice itself, and stored into. A store touches the
+// block's own bytes and no other, however short the block; a refused call touches none.
 use crate::layout::Layout;
 use crate::lookup::BLOCK_SIZE;
 use crate::lookup::Lookup;

@@ -1,10 +1,19 @@
 -- Every case of the table passes: computed.
 -- Assumes nothing.
 use mathlib.Core.Path.{refl}
-use Rattle.dataflash.specs.Layout.{classes, valid, fits}
-use Rattle.dataflash.specs.Lookup.{findBlock}
-use Rattle.cases.specs.Cases.{passes, every, cases, CasesHold}
+use Rattle.dataflash.specs.Layout.{classes, valid as validLayout, fits}
+use Rattle.dataflash.specs.Lookup.{findClass, findBlock, blockExists}
+use Rattle.dataflash.specs.Image.{blockBytes, storeBlock}
+use Rattle.dataflash.specs.Checksum.{loaded}
+use Rattle.gaugerules.specs.Valid.{inRange, valid}
+use Rattle.gaugerules.specs.Register.{registerOf}
+use Rattle.gaugerules.specs.Word.{isKey, keyWord, obey}
+use Rattle.gaugerules.specs.Transfer.{setClass, loadBlock, selectBlock, isProtected, editError, edit, commitError, committed, setControl}
+use Rattle.gaugerules.specs.Write.{after, commit, writeAt, writeByte, done, writeBytes, badSpan, callError, write}
+use Rattle.gaugerules.specs.Read.{readAt, readByte, readBytes, seen, readError, read}
+use Rattle.gaugerules.specs.Script.{reply, next}
+use Rattle.cases.specs.Cases.{answers, passes, every, cases, CasesHold}
 
 pub cases-hold : CasesHold
-unfolding passes every cases findBlock fits valid classes
+unfolding answers passes every cases classes validLayout fits findClass findBlock blockExists blockBytes storeBlock loaded inRange valid registerOf isKey keyWord obey setClass loadBlock selectBlock isProtected editError edit commitError committed setControl after commit writeAt writeByte done writeBytes badSpan callError write readAt readByte readBytes seen readError read reply next
 cases-hold = refl

@@ -8,13 +8,14 @@ use native.Mathlib.Nat.{add-sub-cancel-left}
 use native.Mathlib.Numerals.{add-one}
 use native.Mathlib.Omega.{arith}
 use lib.Dec.{ltb}
-use lib.ListN.{length, take, drop, getD, set, length-take, length-drop, List·getD-append}
+use lib.ListN.{length, take, drop, getD, set, length-take, length-drop, length-append, length-replicate, List·getD-append}
 use lib.Seq.{paste, paste-suc, length-paste, length-take-le, take-at, drop-at, getD-append-add, getD-take, getD-drop, ext-getD, length-paste-head}
 use borrow.Author.Tests.{ltb-true, ltb-false}
 use Rattle.dataflash.specs.Answer.{lengthOf}
 use Rattle.dataflash.specs.Lookup.{blockSize, findBlock}
 use Rattle.dataflash.specs.Image.{blockBytes, storeBlock}
-use Rattle.dataflash.specs.Laws.{BlockLength, StoreLength, StoreHere, Within, StoreOutside, StoreElsewhere}
+use Rattle.dataflash.specs.Checksum.{loaded}
+use Rattle.dataflash.specs.Laws.{BlockLength, LoadedLength, StoreLength, StoreHere, Within, StoreOutside, StoreElsewhere}
 use Rattle.dataflash.specs.declared.layout.Layout.{Layout}
 use Rattle.dataflash.specs.declared.lookup.Lookup.{Lookup}
 use Rattle.dataflash.proofs.Picks.{on-test, on-answer}
@@ -77,6 +78,19 @@ pub block-length : BlockLength
 unfolding blockBytes
 block-length l image i b =
     on-answer (findBlock l (length image) i b) (λ s k p. rw p (part-length image s k (block-inside l (length image) i b s k p .end))) (λ e p. rw p)
+
+pub loaded-length : LoadedLength
+unfolding loaded
+loaded-length l image i b =
+    let n = block-length l image i b in
+    on-answer (findBlock l (length image) i b)
+    (λ s k p.
+    let m = block-inside l (length image) i b s k p .most in
+    let q : length (blockBytes l image i b) ≡ k = rw p at n in
+    simp (length-append, length-replicate) (omega arith))
+    (λ e p.
+    let q : length (blockBytes l image i b) ≡ 0 = rw p at n in
+    simp (length-append, length-replicate) (omega arith))
 
 -- a store into block b of class i, of a lookup that found it, and of one that was refused
 module _ (l : Layout) (image : List ℕ) (i b : ℕ) (w : List ℕ) (lw : length w ≡ blockSize) where

@@ -1,18 +1,19 @@
 -- Laws of layouts: their classes as the code goes through them, by the index k of an entry, and what a valid layout has.
 -- Assumes nothing.
-use Prim.Native.Nat.{ℕ, zero, suc, _+_, _-_, _≤_, _<_, min}
+use Prim.Native.Nat.{ℕ, zero, suc, _+_, _≤_, _<_, min}
 use mathlib.Core.Path.{_≡_, refl, sym, ap, _∙_}
-use mathlib.Core.Bool.{Bool, true, false, cond, true≢false}
+use mathlib.Core.Bool.{Bool, true, false, cond}
 use mathlib.Core.List.{List, [], _∷_}
 use native.Mathlib.Numerals.{add-one}
 use native.Mathlib.Omega.{arith}
-use lib.Dec.{eqb, leb}
+use lib.Dec.{eqb}
 use lib.ListN.{length, drop, getD, length-take, drop-of-length-le}
 use lib.Seq.{drop-cons, getD-take}
 use borrow.Author.Tests.{eq-eqb, ne-eqb, eqb-true, leb-true}
+use Rattle.dataflash.proofs.Picks.{all-first, all-rest}
 use Rattle.dataflash.specs.Answer.{unknownClass}
 use Rattle.dataflash.specs.Layout.{maxClasses, maxImageLength, infoClass, infoLength, keyClass, minKeyLength}
-use Rattle.dataflash.specs.Layout.{Class, paired, classes, sizeOf, size, locate, inOrder, ordered, lengthIn, hasFixedClasses, valid, fits}
+use Rattle.dataflash.specs.Layout.{Class, paired, classes, sizeOf, size, locate, inOrder, ordered, lengthIn, valid, fits}
 use Rattle.dataflash.specs.declared.layout.Layout.{Layout}
 use Rattle.dataflash.specs.declared.lookup.Lookup.{Lookup}
 
@@ -93,10 +94,6 @@ module _ (l : Layout) (k lo : ℕ) (z : Bool) (w : Whole l) (e : ordered lo (dro
 
 -- ---- what a valid layout has
 
-pub all-true : (t u : Bool) → cond t u false ≡ true → (t ≡ true) × (u ≡ true)
-all-true true u e = (refl, e)
-all-true false u e = absurd (true≢false (sym e))
-
 pub record Valid (l : Layout) : Type 0 where
   pub some : 1 ≤ l .count
   pub used : l .count ≤ maxClasses
@@ -107,29 +104,11 @@ pub record Valid (l : Layout) : Type 0 where
 
 pub valid-parts : (l : Layout) → valid l ≡ true → Valid l
 unfolding valid
-valid-parts l e =
-    let e₁ = all-true (leb 1 (l .count)) _ e in
-    let e₂ = all-true (leb (l .count) maxClasses) _ (e₁ .1) in
-    let e₃ = all-true (ordered 0 (classes l)) _ (e₂ .1) in
-    let e₄ = all-true (leb (size l) maxImageLength) _ (e₃ .1) in
-    let e₅ = all-true (hasFixedClasses l) _ (e₄ .1) in
-    let e₆ = all-true (eqb (lengthIn l infoClass) infoLength) _ (e₅ .0) in
-    let e₇ = all-true (leb minKeyLength (lengthIn l keyClass)) _ (e₆ .1) in
-    record {
-      some = leb-true _ _ (e₁ .0);
-      used = leb-true _ _ (e₂ .0);
-      order = e₃ .0;
-      small = leb-true _ _ (e₄ .0);
-      info = eqb-true _ _ (e₆ .0);
-      keys = leb-true _ _ (e₇ .0);
-    }
+valid-parts l e = search (all-first, all-rest, leb-true, eqb-true) depth 12
 
 pub fits-parts : (l : Layout) (n : ℕ) → fits l n ≡ true → (valid l ≡ true) × (n ≡ size l)
 unfolding fits
-fits-parts l n e =
-    let e₁ = all-true (valid l) _ e in
-    let e₂ = all-true (eqb n (size l)) _ (e₁ .1) in
-    (e₁ .0, eqb-true _ _ (e₂ .0))
+fits-parts l n e = search (all-first, all-rest, eqb-true)
 
 -- for the functions that ask it of a layout that a call has found valid, or fitting
 pub valid-used : (l : Layout) (t : Bool) → t ≡ valid l → t ≡ true → l .count ≤ maxClasses

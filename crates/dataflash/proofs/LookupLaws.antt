@@ -12,8 +12,8 @@ use mir.Val.{Fits}
 use borrow.Author.Tests.{eqb-true, eqb-false, ltb-true, ltb-false, eq-eqb, lt-ltb, le-ltb}
 use Rattle.dataflash.specs.Answer.{lengthOf, unknownClass, unknownBlock, invalidLayout}
 use Rattle.dataflash.specs.Layout.{maxImageLength, infoClass, keyClass, Class, classes, sizeOf, size, locate, lengthIn, valid, fits}
-use Rattle.dataflash.specs.Lookup.{blockSize, blockIn, findBlock}
-use Rattle.dataflash.specs.Laws.{BlockInside, BlocksApart, InfoBlocks, KeyBlock}
+use Rattle.dataflash.specs.Lookup.{blockSize, findClass, blockIn, findBlock, blockExists}
+use Rattle.dataflash.specs.Laws.{BlockInside, ExistsFound, BlocksApart, InfoBlocks, KeyBlock}
 use Rattle.dataflash.specs.declared.layout.Layout.{Layout}
 use Rattle.dataflash.specs.declared.lookup.Lookup.{Lookup}
 use Rattle.dataflash.proofs.Picks.{on-test, on-answer}
@@ -111,6 +111,14 @@ block-inside l n i b s k p =
     let g = locate-inside 0 (classes l) i (v .base) (v .len) (v .class) in
     let z = fits-parts l n (v .fitting) .1 in
     record { some = omega (arith, v .below, v .size); most = omega (arith, v .size); end = omega (arith, v .below, v .start, v .size) }
+
+pub exists-found : ExistsFound
+unfolding blockExists findClass findBlock
+exists-found l n i b f =
+    rw (f, fits-parts l n f .0)
+    (on-answer (locate 0 (classes l) i)
+    (λ s k p. rw p (on-test (ltb (blockSize * b) k) (λ h. rw h) (λ h. rw h)))
+    (λ e p. rw p))
 
 -- two blocks of one class, and two of different classes
 module _ (l : Layout) (n i b s k i′ b′ s′ k′ : ℕ) (v : Placed l n i b s k) (v′ : Placed l n i′ b′ s′ k′) where

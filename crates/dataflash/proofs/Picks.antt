@@ -4,7 +4,7 @@
 use Prim.Native.Nat.{ℕ, _<_, _≤_}
 use borrow.Author.Tests.{eq-eqb, ne-eqb, lt-ltb, le-ltb, le-leb, lt-leb}
 use mathlib.Core.Path.{_≡_, refl, sym, _∙_}
-use mathlib.Core.Bool.{Bool, true, false, cond}
+use mathlib.Core.Bool.{Bool, true, false, cond, true≢false}
 use lib.Dec.{eqb, ltb, leb}
 use Rattle.dataflash.specs.Answer.{ifFound, errorOf}
 use Rattle.dataflash.specs.declared.lookup.Lookup.{Lookup}
@@ -63,6 +63,10 @@ module _ (j k v : ℕ) (p : k ≡ j) where
   pub call-last-le : leb v k ≡ cond (leb v j) true false
   call-last-le = pick-last (leb v k) (leb v j) (rw p)
 
+-- the test itself is the answer
+pub call-lt : (j k v : ℕ) → k ≡ j → ltb k v ≡ ltb j v
+call-lt j k v p = rw p
+
 module _ {A : Type 0} (z : A) (f : ℕ → ℕ → A) (r : ℕ → A) (a k : Lookup) (p : k ≡ a) where
   pub call-found : (s n : ℕ) → k ≡ Lookup.Found s n → z ≡ f s n → z ≡ ifFound a f r
   call-found s n q e = rw (← p, q) e
@@ -74,7 +78,19 @@ module _ {A : Type 0} (z : A) (f : ℕ → ℕ → A) (r : ℕ → A) (a k : Loo
 pub call-error : (e : ℕ) (a k : Lookup) → k ≡ a → e ≡ errorOf k → e ≡ errorOf a
 call-error e a k p q = rw p at q
 
-pub ruleset calls = (call-true, call-false, call-eq, call-ne, call-le, call-gt, call-last-eq, call-last-le, call-found, call-refused, call-error)
+pub ruleset calls = (call-true, call-false, call-eq, call-ne, call-le, call-gt, call-last-eq, call-last-le, call-lt, call-found, call-refused, call-error)
+
+-- several tests at once, taken apart and put together: `search` goes along them by these
+pub all-first : (t u : Bool) → cond t u false ≡ true → t ≡ true
+all-first true u e = refl
+all-first false u e = e
+
+pub all-rest : (t u : Bool) → cond t u false ≡ true → u ≡ true
+all-rest true u e = e
+all-rest false u e = absurd (true≢false (sym e))
+
+pub all-both : (t u : Bool) → t ≡ true → u ≡ true → cond t u false ≡ true
+all-both t u p q = rw (p, q)
 
 -- a proof by the cases of a test or of an answer, which keeps what the case says
 module _ {P : Type 0} where
@@ -85,3 +101,8 @@ module _ {P : Type 0} where
   pub on-answer : (a : Lookup) → ((s k : ℕ) → a ≡ Lookup.Found s k → P) → ((e : ℕ) → a ≡ Lookup.Refused e → P) → P
   on-answer (Lookup.Found s k) f g = f s k refl
   on-answer (Lookup.Refused e) f g = g e refl
+
+-- a fact of a choice, from what it is on each side
+pub on-cond : {A : Type 0} (P : A → Type 0) (t : Bool) (x y : A) → (t ≡ true → P x) → (t ≡ false → P y) → P (cond t x y)
+on-cond P true x y f g = f refl
+on-cond P false x y f g = g refl

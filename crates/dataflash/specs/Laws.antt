@@ -3,12 +3,12 @@
 use Prim.Native.Nat.{ℕ, _+_, _%_, _≤_, _<_}
 use mathlib.Core.Path.{_≡_}
 use mathlib.Core.Logic.{_⊎_}
-use mathlib.Core.Bool.{true}
+use mathlib.Core.Bool.{true, false}
 use mathlib.Core.List.{List}
 use lib.ListN.{length, getD, set, take}
-use Rattle.dataflash.specs.Answer.{startOf, lengthOf}
-use Rattle.dataflash.specs.Layout.{size, valid, infoClass, keyClass, minKeyLength}
-use Rattle.dataflash.specs.Lookup.{blockSize, findBlock}
+use Rattle.dataflash.specs.Answer.{ifFound, startOf, lengthOf}
+use Rattle.dataflash.specs.Layout.{size, valid, fits, infoClass, keyClass, minKeyLength}
+use Rattle.dataflash.specs.Lookup.{blockSize, findBlock, blockExists}
 use Rattle.dataflash.specs.Image.{blockBytes, storeBlock}
 use Rattle.dataflash.specs.Checksum.{total, checksum, checksumAfter, loaded}
 use Rattle.dataflash.specs.declared.layout.Layout.{Layout}
@@ -42,6 +42,10 @@ pub record Inside (n s k : ℕ) : Type 0 where
 abbrev pub BlockInside : Type 0
 BlockInside = (l : Layout) (n i b s k : ℕ) → findBlock l n i b ≡ Lookup.Found s k → Inside n s k
 
+-- a block exists exactly if its lookup in an image of the layout finds it
+abbrev pub ExistsFound : Type 0
+ExistsFound = (l : Layout) (n i b : ℕ) → fits l n ≡ true → blockExists l i b ≡ ifFound (findBlock l n i b) (λ s k. true) (λ e. false)
+
 -- two blocks that differ in class or in number do not overlap
 abbrev pub BlocksApart : Type 0
 BlocksApart =
@@ -51,6 +55,10 @@ BlocksApart =
 -- a block is as long as its lookup says
 abbrev pub BlockLength : Type 0
 BlockLength = (l : Layout) (image : List ℕ) (i b : ℕ) → length (blockBytes l image i b) ≡ lengthOf (findBlock l (length image) i b)
+
+-- a block as loaded fills the window
+abbrev pub LoadedLength : Type 0
+LoadedLength = (l : Layout) (image : List ℕ) (i b : ℕ) → length (loaded (blockBytes l image i b)) ≡ blockSize
 
 -- ---- the image after a store of a window w into block b of class i
 

@@ -1,7 +1,7 @@
 -- Finding a class and a block. Document 01, "Layout and image", second and last point; refusals 10, 4, 5 in that order.
 -- Assumes nothing.
 use Prim.Native.Nat.{ℕ, _+_, _-_, _*_, min}
-use mathlib.Core.Bool.{cond}
+use mathlib.Core.Bool.{Bool, false, cond}
 use lib.Dec.{ltb}
 use Rattle.dataflash.specs.Answer.{ifFound, unknownBlock, invalidLayout}
 use Rattle.dataflash.specs.Layout.{classes, locate, valid, fits}
@@ -22,3 +22,7 @@ blockIn s n b = cond (ltb (blockSize * b) n) (Lookup.Found (s + blockSize * b) (
 -- 01: "A refused block request (10, 4, 5 in that order)". The image has n bytes
 unfoldable pub findBlock : Layout → ℕ → ℕ → ℕ → Lookup
 findBlock l n i b = cond (fits l n) (ifFound (locate 0 (classes l) i) (λ s k. blockIn s k b) (λ e. Lookup.Refused e)) (Lookup.Refused invalidLayout)
+
+-- 01: "It exists when 32b is less than the length." No class of an invalid layout has a block
+unfoldable pub blockExists : Layout → ℕ → ℕ → Bool
+blockExists l i b = ifFound (findClass l i) (λ s n. ltb (blockSize * b) n) (λ e. false)

@@ -8,7 +8,7 @@ ghost use mathlib.Core.Path.{_≡_};
 ghost use Prim.Native.Nat.{_*_, _≤_, min};
 ghost use Rattle.dataflash.specs.Answer.{errorOf};
 ghost use Rattle.dataflash.specs.Layout.{maxClasses, maxImageLength, classes, locate};
-ghost use Rattle.dataflash.specs.Lookup.{blockSize, findClass, blockIn, findBlock};
+ghost use Rattle.dataflash.specs.Lookup.{blockSize, findClass, blockIn, findBlock, blockExists};
 
 pub const BLOCK_SIZE: usize = 32;
 
@@ -104,4 +104,14 @@ pub fn find_block(layout: Layout, image_len: usize, class: u8, block: u8) -> Loo
         return block_in(start, len, block);
     }
     Lookup::Refused(INVALID_LAYOUT)
+}
+
+// Whether a class of the layout has a block of this number.
+pub fn block_exists(layout: Layout, class: u8, block: u8) -> bool
+    ensures { λ r. ⌜ r ≡ blockExists layout class block ⌝ }
+{
+    let Lookup::Found { start: _, len } = find_class(layout, class) else {
+        return false;
+    };
+    block_offset(block) < len
 }

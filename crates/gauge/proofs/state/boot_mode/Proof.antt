@@ -1,0 +1,12 @@
+-- `gauge::state::boot_mode` meets its contract. Test by test, as the definition.
+-- Assumes nothing.
+use Rattle.dataflash.proofs.Picks.{picks}
+use Rattle.gauge.proofs.state.boot_mode.Statement.{statement}
+use Rattle.gauge.proofs.state.boot_mode.Tie as tie
+
+pub boot-mode-spec : {M : Type 1} → statement M
+boot-mode-spec =
+    tie.close
+    (tie.spec
+    (λ c. search picks depth 12)
+    (λ c. search picks depth 12))

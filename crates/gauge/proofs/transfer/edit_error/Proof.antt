@@ -1,0 +1,18 @@
+-- `gauge::transfer::edit_error` meets its contract. Test by test, as the definition.
+-- Assumes nothing.
+use borrow.Author.Needs.{needs}
+use Rattle.dataflash.proofs.Picks.{picks, calls}
+use Rattle.gaugerules.specs.Transfer.{editError}
+use Rattle.gauge.proofs.Picks.{steps}
+use Rattle.gauge.proofs.transfer.edit_error.Statement.{statement}
+use Rattle.gauge.proofs.transfer.edit_error.Tie as tie
+
+pub edit-error-spec : {M : Type 1} → statement M
+unfolding editError
+edit-error-spec =
+    tie.close
+    (tie.spec
+    (λ c. search (picks, calls, steps) depth 12)
+    (λ c κs. search needs)
+    (λ c. search (picks, calls, steps) depth 12)
+    (λ c. search (picks, calls, steps) depth 12))

@@ -1,0 +1,21 @@
+-- `gauge::transfer::set_control` meets its contract. Test by test, as the definition.
+-- Assumes nothing.
+use borrow.Author.Needs.{needs}
+use Rattle.dataflash.proofs.Picks.{picks, calls}
+use Rattle.gaugerules.specs.Transfer.{setControl}
+use Rattle.gauge.proofs.Picks.{steps}
+use Rattle.gauge.proofs.transfer.set_control.Statement.{statement}
+use Rattle.gauge.proofs.transfer.set_control.Tie as tie
+
+pub set-control-spec : {M : Type 1} → statement M
+unfolding setControl
+set-control-spec =
+    tie.close
+    (tie.spec
+    (λ c κs. search needs)
+    (λ c. search (picks, calls, steps) depth 12)
+    (λ c κs. search needs)
+    (λ c κs. search needs)
+    (λ c. search (picks, calls, steps) depth 12)
+    (λ c κs. search needs)
+    (λ c. search (picks, calls, steps) depth 12))

@@ -1,0 +1,15 @@
+-- `gauge::valid::few_in_range` meets its contract. Test by test, as the definition.
+-- Assumes nothing.
+use Rattle.dataflash.proofs.Picks.{picks}
+use Rattle.gauge.proofs.valid.few_in_range.Statement.{statement}
+use Rattle.gauge.proofs.valid.few_in_range.Tie as tie
+
+pub few-in-range-spec : {M : Type 1} → statement M
+few-in-range-spec =
+    tie.close
+    (tie.spec
+    (λ c. search picks depth 12)
+    (λ c. search picks depth 12)
+    (λ c. search picks depth 12)
+    (λ c. search picks depth 12)
+    (λ c. search picks depth 12))

@@ -1,0 +1,29 @@
+-- `gauge::word::is_key` meets its contract. Test by test, as the definition.
+-- Assumes nothing.
+use borrow.Author.Needs.{needs}
+use Rattle.dataflash.proofs.Picks.{picks, calls}
+use Rattle.gaugerules.specs.Word.{isKey}
+use Rattle.gauge.proofs.Picks.{steps}
+use Rattle.gauge.proofs.word.is_key.Statement.{statement}
+use Rattle.gauge.proofs.word.is_key.Tie as tie
+
+pub is-key-spec : {M : Type 1} → statement M
+unfolding isKey
+is-key-spec =
+    tie.close
+    (tie.spec
+    (λ c. search needs)
+    (λ c κs. search needs)
+    (λ c. search needs)
+    (λ c. search needs)
+    (λ c κs. search needs)
+    (λ c. search needs)
+    (λ c. search needs)
+    (λ c κs. search needs)
+    (λ c. search needs)
+    (λ c. search needs)
+    (λ c κs. search needs)
+    (λ c. search (picks, calls, steps) depth 12)
+    (λ c. search (picks, calls, steps) depth 12)
+    (λ c. search (picks, calls, steps) depth 12)
+    (λ c. search (picks, calls, steps) depth 12))

@@ -1,0 +1,21 @@
+-- `gauge::write::call_error` meets its contract. Test by test, as the definition.
+-- Assumes nothing.
+use borrow.Author.Needs.{needs}
+use Rattle.dataflash.proofs.Picks.{picks, calls}
+use Rattle.gaugerules.specs.Write.{callError}
+use Rattle.gauge.proofs.Picks.{steps}
+use Rattle.gauge.proofs.write.call_error.Statement.{statement}
+use Rattle.gauge.proofs.write.call_error.Tie as tie
+
+pub call-error-spec : {M : Type 1} → statement M
+unfolding callError
+call-error-spec =
+    tie.close
+    (tie.spec
+    (λ c κs. search needs)
+    (λ c κs. search needs)
+    (λ c κs. search needs)
+    (λ c. search (picks, calls, steps) depth 12)
+    (λ c. search (picks, calls, steps) depth 12)
+    (λ c. search (picks, calls, steps) depth 12)
+    (λ c. search (picks, calls, steps) depth 12))

@@ -1,0 +1,34 @@
+-- `gauge::write::write_bytes` meets its contract. The invariant: what is left to write gives what the whole gives.
+-- Assumes nothing.
+use borrow.Author.Needs.{needs}
+use mathlib.Core.Path.{_≡_}
+use Prim.Native.Nat.{_+_, _-_, _≤_}
+use lib.ListN.{length, drop}
+use Rattle.gaugerules.specs.Write.{writeBytes}
+use Rattle.gauge.proofs.WriteLaws.{fits-kept, run-end, run-more, run-stop}
+use Rattle.gauge.proofs.write.write_bytes.Statement.{statement}
+use Rattle.gauge.proofs.write.write_bytes.Tie as tie
+
+abbrev Inv-loop : tie.InvT-loop
+Inv-loop layout image₀ register bytes next₀ at₀ i₀ image next at i = (writeBytes layout image next at i (drop i bytes) ≡ writeBytes layout image₀ next₀ register 0 bytes) × (length image ≡ length image₀) × (at ≡ register + i) × (i ≤ length bytes)
+
+abbrev μ-loop : tie.MeasureT-loop
+μ-loop layout image₀ register bytes next₀ at₀ i₀ image next at i = length bytes - i
+
+pub write-bytes-spec : {M : Type 1} → statement M
+write-bytes-spec =
+    tie.close
+    (tie.spec
+    Inv-loop
+    μ-loop
+    (λ c. search needs)
+    (λ c. search needs)
+    (λ c κs. search fits-kept)
+    (λ c. search needs)
+    (λ c. search needs)
+    (λ c. search needs)
+    (λ c. search (needs, run-more))
+    (λ c. search needs)
+    (λ c. search run-stop)
+    (λ c. search needs)
+    (λ c. search run-end))

@@ -1,0 +1,155 @@
+// A write: its bytes one by one at the register, the next and so on, until one is refused. A refused byte alters neither gauge nor
+// image; the bytes before it stand.
+use crate::register::decode;
+use crate::transfer::accept;
+use crate::transfer::commit;
+use crate::transfer::edit;
+use crate::transfer::refuse;
+use crate::transfer::select_block;
+use crate::transfer::set_class;
+use crate::transfer::set_control;
+use crate::valid::valid;
+use crate::word::obey;
+use crate::word::word;
+use dataflash::layout::Layout;
+use dataflash::layout::fits;
+use dataflash::lookup::INVALID_LAYOUT;
+use gaugerules::answer::INVALID_GAUGE;
+use gaugerules::answer::INVALID_SPAN;
+use gaugerules::answer::READ_ONLY;
+use gaugerules::answer::Step;
+use gaugerules::answer::Written;
+use gaugerules::register::REGISTERS;
+use gaugerules::register::Register;
+use gaugerules::state::Gauge;
+ghost use mathlib.Core.Path.{_≡_};
+ghost use mathlib.Core.Bool.{true};
+ghost use Prim.Native.Nat.{_+_, _≤_};
+ghost use lib.ListN.{length};
+ghost use Rattle.dataflash.specs.Layout.{fits};
+ghost use Rattle.gaugerules.specs.Register.{registers};
+ghost use Rattle.gaugerules.specs.Transfer.{accept};
+ghost use Rattle.gaugerules.specs.State.{withLow};
+ghost use Rattle.gaugerules.specs.Word.{word, obey};
+ghost use Rattle.gaugerules.specs.Write.{after, writeByte, done, writeBytes, badSpan, callError, write};
+
+// 0x00.
+fn keep_low(gauge: Gauge, byte: u8) -> Step
+    ensures { λ s. ⌜ s ≡ accept (withLow gauge byte) ⌝ }
+{
+    let mut next = gauge;
+    next.low = byte;
+    accept(next)
+}
+
+// 0x01.
+fn take_word(layout: Layout, image: &[u8], gauge: Gauge, byte: u8) -> Step
+    requires { ⌜ fits layout (length (now image)) ≡ true ⌝ }
+    ensures { λ s. ⌜ s ≡ accept (obey layout (now (image .entry)) gauge (word (gauge .low) byte)) ⌝ }
+{
+    accept(obey(layout, image, gauge, word(gauge.low, byte)))
+}
+
+// One byte at a register.
+fn write_byte(layout: Layout, image: &mut [u8], gauge: Gauge, register: usize, byte: u8) -> Step
+    requires { ⌜ fits layout (length (now image)) ≡ true ⌝ }
+    ensures { λ s. ⌜ after s (now (image .exit)) ≡ writeByte layout (now (image .entry)) gauge register byte ⌝ }
+{
+    let kind = decode(register);
+    match kind {
+        Register::ControlLow => keep_low(gauge, byte),
+        Register::ControlHigh => take_word(layout, &image[..], gauge, byte),
+        Register::DataFlashClass => set_class(gauge, byte),
+        Register::DataFlashBlock => select_block(layout, &image[..], gauge, byte),
+        Register::BlockData(k) => edit(gauge, k, byte),
+        Register::BlockDataChecksum => commit(layout, image, gauge, byte),
+        Register::BlockDataControl => set_control(gauge, byte),
+        Register::Other => refuse(READ_ONLY, gauge),
+    }
+}
+
+// Whether no such registers are there: none asked for, or some past the last.
+fn bad_span(register: u8, count: usize) -> bool
+    ensures { λ r. ⌜ r ≡ badSpan register count ⌝ }
+{
+    if count == 0 {
+        return true;
+    }
+    if REGISTERS < count {
+        return true;
+    }
+    REGISTERS < (register as usize) + count
+}
+
+// Why no byte of a transaction is looked at, 0 where all may be; the image has so many bytes.
+pub(crate) fn call_error(
+    layout: Layout,
+    image_len: usize,
+    gauge: Gauge,
+    register: u8,
+    count: usize,
+) -> u8
+    ensures { λ r. ⌜ r ≡ callError layout «image_len» gauge register count ⌝ }
+{
+    if fits(layout, image_len) {
+        if valid(layout, gauge) {
+            if bad_span(register, count) {
+                return INVALID_SPAN;
+            }
+            return 0;
+        }
+        return INVALID_GAUGE;
+    }
+    INVALID_LAYOUT
+}
+
+// The bytes from a register on.
+fn write_bytes(
+    layout: Layout,
+    image: &mut [u8],
+    gauge: Gauge,
+    register: usize,
+    bytes: &[u8],
+) -> Written
+    requires { ⌜ (fits layout (length (now image)) ≡ true) × (register + length (now bytes) ≤ registers) ⌝ }
+    ensures { λ w. ⌜ done w (now (image .exit)) ≡ writeBytes layout (now (image .entry)) gauge register 0 (now (bytes .entry)) ⌝ }
+{
+    let mut next = gauge;
+    let mut at = register;
+    let mut i = 0;
+    while i < bytes.len() {
+        let step = write_byte(layout, image, next, at, bytes[i]);
+        let error = step.error;
+        next = step.gauge;
+        if error == 0 {
+            at += 1;
+            i += 1;
+        } else {
+            return Written {
+                error,
+                accepted: i,
+                gauge: next,
+            };
+        }
+    }
+    Written {
+        error: 0,
+        accepted: i,
+        gauge: next,
+    }
+}
+
+// Writes bytes at a register and those after it.
+pub fn write(layout: Layout, image: &mut [u8], gauge: Gauge, register: u8, bytes: &[u8]) -> Written
+    ensures { λ w. ⌜ done w (now (image .exit)) ≡ write layout (now (image .entry)) gauge register (now (bytes .entry)) ⌝ }
+{
+    let error = call_error(layout, image.len(), gauge, register, bytes.len());
+    if error == 0 {
+        return write_bytes(layout, image, gauge, register as usize, bytes);
+    }
+    Written {
+        error,
+        accepted: 0,
+        gauge,
+    }
+}

@@ -1,0 +1,7 @@
+pub mod Laws
+pub mod RegisterLaws
+pub mod RunLaws
+pub mod ValidLaws
+pub mod ByteLaws
+pub mod Silence
+pub mod KeyLaws

@@ -1,0 +1,10 @@
+pub mod Error
+pub mod State
+pub mod Valid
+pub mod Register
+pub mod Word
+pub mod Transfer
+pub mod Write
+pub mod Read
+pub mod Script
+pub mod Laws

@@ -1,0 +1,58 @@
+-- Which gauges are valid for a layout (document 01: sound). Document 01, "The gauge record", "A record is sound ..".
+-- Assumes nothing.
+use Prim.Native.Nat.{ℕ}
+use mathlib.Core.Bool.{Bool, true, false, cond}
+use mathlib.Core.List.{List, [], _∷_}
+use lib.Dec.{eqb, leb, ltb}
+use lib.ListN.{length}
+use Rattle.dataflash.specs.Choice.{all}
+use Rattle.dataflash.specs.Layout.{infoClass}
+use Rattle.dataflash.specs.Lookup.{blockSize, blockExists}
+use Rattle.dataflash.specs.declared.layout.Layout.{Layout}
+use Rattle.gaugerules.specs.State.{fullAccess, bootOpen, noWord, noBlock, controlInfo, infoBlocks, isSealed, isFullAccess, nonePending, noneLoaded, loadedClass, loadedBlock}
+use Rattle.gaugerules.specs.declared.state.Gauge.{Gauge}
+
+abbrev pub maxByte : ℕ
+maxByte = 255
+
+abbrev pub maxWord : ℕ
+maxWord = 65535
+
+-- 01: "its numbers are in range"
+unfoldable pub inRange : Gauge → Bool
+inRange g =
+    all
+    (leb (g .mode) fullAccess
+    ∷ leb (g .boot) bootOpen
+    ∷ leb (g .low) maxByte
+    ∷ leb (g .pending) noWord
+    ∷ leb (g .result) maxWord
+    ∷ leb (g .control) controlInfo
+    ∷ leb (g .class) maxByte
+    ∷ leb (g .block) maxByte
+    ∷ leb (g .loaded) noBlock
+    ∷ eqb (length (g .window)) blockSize
+    ∷ [])
+
+abbrev pub isZero : List ℕ → Bool
+isZero [] = true
+isZero (b ∷ bs) = cond (eqb b 0) (isZero bs) false
+
+-- 01: "a loaded block exists, with none loaded the window is zero"
+abbrev pub loadedValid : Layout → Gauge → Bool
+loadedValid l g = cond (noneLoaded g) (isZero (g .window)) (blockExists l (loadedClass g) (loadedBlock g))
+
+-- 01: "in full access no word waits"
+abbrev pub pendingValid : Gauge → Bool
+pendingValid g = cond (isFullAccess g) (nonePending g) true
+
+-- "nothing but a manufacturer block loaded"
+abbrev pub onlyInfoLoaded : Gauge → Bool
+onlyInfoLoaded g = cond (noneLoaded g) true (all (eqb (loadedClass g) infoClass ∷ ltb (loadedBlock g) infoBlocks ∷ []))
+
+-- 01: "a sealed record has BlockDataControl 1 and nothing but a manufacturer block loaded"
+abbrev pub sealedValid : Gauge → Bool
+sealedValid g = cond (isSealed g) (all (eqb (g .control) controlInfo ∷ onlyInfoLoaded g ∷ [])) true
+
+unfoldable pub valid : Layout → Gauge → Bool
+valid l g = all (inRange g ∷ loadedValid l g ∷ pendingValid g ∷ sealedValid g ∷ [])

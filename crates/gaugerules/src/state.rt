@@ -1,0 +1,51 @@
+// The state of a gauge (document 01: the gauge record). Numbers only, so that a host program can hold it and any record whatever
+// can be passed; whether one is valid is a test.
+use dataflash::lookup::BLOCK_SIZE;
+
+// Modes.
+pub const SEALED: u8 = 0;
+
+pub const UNSEALED: u8 = 1;
+
+pub const FULL_ACCESS: u8 = 2;
+
+// The mode after a reset (document 01: home).
+pub const BOOT_SEALED: u8 = 0;
+
+pub const BOOT_OPEN: u8 = 1;
+
+// No key word is pending. A word has 16 bits.
+pub const NO_WORD: u32 = 0x10000;
+
+// No block is loaded. A loaded block is 256 x class + block.
+pub const NO_BLOCK: u32 = 0x10000;
+
+// What BlockDataControl() selects: the data flash, or the manufacturer info blocks.
+pub const CONTROL_FLASH: u8 = 0;
+
+pub const CONTROL_INFO: u8 = 1;
+
+// How many manufacturer info blocks there are: A, B and C.
+pub const INFO_BLOCKS: u8 = 3;
+
+#[repr(C)]
+pub struct Gauge {
+    pub mode: u8,
+    pub boot: u8,
+    // The low byte of the next control word.
+    pub low: u8,
+    // The key word that waits for a second one, or NO_WORD.
+    pub pending: u32,
+    // What Control() reads.
+    pub result: u16,
+    // BlockDataControl().
+    pub control: u8,
+    // DataFlashClass().
+    pub class: u8,
+    // DataFlashBlock().
+    pub block: u8,
+    // The block in the window, or NO_BLOCK.
+    pub loaded: u32,
+    // BlockData().
+    pub window: [u8; BLOCK_SIZE],
+}

@@ -6,18 +6,16 @@ use mathlib.Core.List.{List, [], _∷_, _++_, append-assoc}
 use native.Mathlib.Nat.{sub-zero}
 use native.Mathlib.Numerals.{add-one}
 use native.Mathlib.Omega.{arith}
-use lib.Dec.{eqb, ltb}
 use lib.ListN.{length, getD, take, drop, set, take-append-drop}
 use lib.Seq.{take-suc-set, drop-set-lt}
-use borrow.Author.Tests.{eq-eqb, ne-eqb, eqb-true, eqb-false, ltb-false}
+use borrow.Author.Tests.{eq-eqb, ne-eqb}
 use Rattle.dataflash.specs.Checksum.{checksum}
 use Rattle.dataflash.specs.declared.layout.Layout.{Layout}
-use Rattle.dataflash.proofs.Picks.{on-test}
 use Rattle.gaugerules.specs.Register.{registers, registerOf}
-use Rattle.gaugerules.specs.Write.{callError}
 use Rattle.gaugerules.specs.Read.{unlessSealed, readAt, readByte, readBytes, answer, seen, readError, read}
 use Rattle.gaugerules.specs.declared.state.Gauge.{Gauge}
 use Rattle.gaugerules.specs.declared.register.Register.{Register}
+use Rattle.gaugerules.proofs.ReadLaws.{read-free}
 use Rattle.gaugerules.proofs.RunLaws.{called}
 
 -- ---- one register, by what it was decoded as; x is what a call gave
@@ -78,15 +76,6 @@ module _ (g : Gauge) (at i n : ℕ) (buffer z : List ℕ) (e : take i buffer ++ 
       rw (t, d, append-assoc) (rw (c, ← p) at e)
 
 -- ---- the checks before the first byte
-
-read-free : (l : Layout) (size : ℕ) (g : Gauge) (r n room : ℕ) → readError l size g r n room ≡ 0 → (callError l size g r n ≡ 0) × (n ≤ room)
-unfolding readError
-read-free l size g r n room e =
-    on-test (eqb (callError l size g r n) 0)
-    (λ c.
-    on-test (ltb room n) (λ s. let z : _≡_ {A = ℕ} 14 0 = rw (c, s) at e in absurd (omega arith))
-    (λ s. (eqb-true _ _ c, ltb-false room n s)))
-    (λ c. absurd (eqb-false _ _ c (rw c at e)))
 
 module _ (l : Layout) (image buffer : List ℕ) (g : Gauge) (r n e : ℕ) (p : e ≡ readError l (length image) g r n (length buffer)) where
   pub reads-span : e ≡ 0 → r + n ≤ registers

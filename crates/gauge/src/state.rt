@@ -101,16 +101,9 @@ pub(crate) fn unload(gauge: Gauge) -> Gauge
 pub(crate) fn load(gauge: Gauge, byte: u8, class: u8, block: u8, window: [u8; BLOCK_SIZE]) -> Gauge
     ensures { λ r. ⌜ r ≡ load gauge byte class block window ⌝ }
 {
-    Gauge {
-        mode: gauge.mode,
-        boot: gauge.boot,
-        low: gauge.low,
-        pending: gauge.pending,
-        result: gauge.result,
-        control: gauge.control,
-        class: gauge.class,
-        block: byte,
-        loaded: packed(class, block),
-        window: window,
-    }
+    let mut next = gauge;
+    next.block = byte;
+    next.loaded = packed(class, block);
+    next.window = window;
+    next
 }

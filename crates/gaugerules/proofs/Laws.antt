@@ -2,5 +2,6 @@
 -- Assumes nothing.
 pub use Rattle.gaugerules.proofs.ValidLaws.{power-on-valid, write-valid, write-length}
 pub use Rattle.gaugerules.proofs.ByteLaws.{refused-byte, bytes-stand, commit-rule, only-commit}
+pub use Rattle.gaugerules.proofs.ReadLaws.{read-refused, read-accepted}
 pub use Rattle.gaugerules.proofs.Silence.{sealed-alike, silence}
 pub use Rattle.gaugerules.proofs.KeyLaws.{unseals-by-key}

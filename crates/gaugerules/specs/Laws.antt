@@ -5,7 +5,7 @@ use mathlib.Core.Path.{_≡_}
 use mathlib.Core.Bool.{Bool, true, false, not}
 use mathlib.Core.List.{List, [], _∷_, _++_}
 use lib.Dec.{eqb}
-use lib.ListN.{length, getD, take}
+use lib.ListN.{length, getD, take, drop}
 use Rattle.dataflash.specs.Answer.{lengthOf}
 use Rattle.dataflash.specs.Choice.{all}
 use Rattle.dataflash.specs.Layout.{infoClass, fits}
@@ -19,6 +19,7 @@ use Rattle.gaugerules.specs.Valid.{maxByte, valid}
 use Rattle.gaugerules.specs.Register.{blockDataChecksum}
 use Rattle.gaugerules.specs.Transfer.{isProtected}
 use Rattle.gaugerules.specs.Write.{After, done, ended, writeByte, writeBytes, write}
+use Rattle.gaugerules.specs.Read.{readBytes, read}
 use Rattle.gaugerules.specs.Script.{Device, device, Call, toWrite, toRead, reply, next, unseals, obeyed, entersKey}
 use Rattle.gaugerules.specs.declared.state.Gauge.{Gauge}
 
@@ -37,18 +38,29 @@ WriteValid = (l : Layout) (image : List ℕ) (g : Gauge) (r : ℕ) (bytes : List
 abbrev pub WriteLength : Type 0
 WriteLength = (l : Layout) (image : List ℕ) (g : Gauge) (r : ℕ) (bytes : List ℕ) → Bytes bytes → length (write l image g r bytes .image) ≡ length image
 
--- ---- refusals: "A refused byte alters nothing, the bytes before it stand"
+-- ---- refusals: demand 1, "A refused byte alters nothing, the bytes before it stand, a refused read leaves the buffer untouched."
 
 abbrev pub RefusedByte : Type 0
 RefusedByte =
     (l : Layout) (image : List ℕ) (g : Gauge) (r byte : ℕ) → let s = writeByte l image g r byte in
     (s .error ≡ 0 → ⊥) → (s .gauge ≡ g) × (s .image ≡ image)
 
--- the bytes that were accepted, sent alone, are all accepted and leave the same gauge and image
+-- past the checks of the call, the bytes that were accepted, sent alone, are all accepted and leave the same gauge and image
 abbrev pub BytesStand : Type 0
 BytesStand =
     (l : Layout) (image : List ℕ) (g : Gauge) (r : ℕ) (bytes : List ℕ) → let w = writeBytes l image g r 0 bytes in
     writeBytes l image g r 0 (take (w .accepted) bytes) ≡ done (ended 0 (w .accepted) (w .gauge)) (w .image)
+
+abbrev pub ReadRefused : Type 0
+ReadRefused =
+    (l : Layout) (image : List ℕ) (g : Gauge) (r n : ℕ) (buffer : List ℕ) → let s = read l image g r n buffer in
+    (s .error ≡ 0 → ⊥) → (s .accepted ≡ 0) × (s .buffer ≡ buffer)
+
+-- an accepted read touches the first n bytes of the buffer alone
+abbrev pub ReadAccepted : Type 0
+ReadAccepted =
+    (l : Layout) (image : List ℕ) (g : Gauge) (r n : ℕ) (buffer : List ℕ) → let s = read l image g r n buffer in
+    s .error ≡ 0 → (s .accepted ≡ n) × (take n (s .buffer) ≡ readBytes g r n) × (drop n (s .buffer) ≡ drop n buffer)
 
 -- ---- commits
 

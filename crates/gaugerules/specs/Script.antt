@@ -43,14 +43,15 @@ unseals l d c = all (isSealed (d .gauge) ∷ not (isSealed (next l d c .gauge)) 
 
 -- ---- 01's other wording of it: "a byte taken at 0x01 makes a word, another word was obeyed before it, .."
 
--- the words that bytes make which were taken at r, r + 1 and so on, the last one first; `low` is the low control byte before them
+-- the word that bytes make which were taken at r, r + 1 and so on, or none, since they pass 0x01 once or not at all; `low` is the low control
+-- byte before them
 unfoldable pub made : ℕ → ℕ → List ℕ → List ℕ
 made low r [] = []
 made low r (b ∷ bs) =
     cond (eqb r controlLow) (made b (r + 1) bs)
     (cond (eqb r controlHigh) (word low b ∷ []) [])
 
--- the words that a call makes
+-- the word that a call makes, or none
 unfoldable pub obeyed : Layout → Device → Call → List ℕ
 obeyed l d (toWrite r bytes) = made (d .gauge .low) r (take (write l (d .image) (d .gauge) r bytes .accepted) bytes)
 obeyed l d (toRead r n buffer) = []
@@ -59,7 +60,7 @@ obeyed l d (toRead r n buffer) = []
 abbrev pub mayBeKey : ℕ → Bool
 mayBeKey w = all (not (eqb w statusWord) ∷ not (eqb w sealWord) ∷ not (eqb w resetWord) ∷ [])
 
--- "and these two, as sent, are that gauge's own unseal key": a word of `now` after the last one of `past`
+-- "and these two, as sent, are that gauge's own unseal key": the word that a call makes, `now`, and the last one of `past`
 unfoldable pub entersKey : Layout → List ℕ → List ℕ → List ℕ → Bool
 entersKey l image [] past = false
 entersKey l image (w ∷ now) [] = false

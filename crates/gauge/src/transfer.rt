@@ -188,9 +188,9 @@ pub(crate) fn set_control(gauge: Gauge, byte: u8) -> Step
     if gauge.mode == SEALED {
         return refuse(SEALED_REGISTER, gauge);
     }
+    let mut next = gauge;
+    next.control = byte;
     if byte <= CONTROL_INFO {
-        let mut next = gauge;
-        next.control = byte;
         return accept(unload(next));
     }
     refuse(INVALID_CONTROL, gauge)

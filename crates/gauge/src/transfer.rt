@@ -20,6 +20,7 @@ use gaugerules::answer::PROTECTED_BLOCK;
 use gaugerules::answer::SEALED_REGISTER;
 use gaugerules::answer::Step;
 use gaugerules::answer::WRONG_CHECKSUM;
+use gaugerules::state::BLOCK_A;
 use gaugerules::state::CONTROL_INFO;
 use gaugerules::state::Gauge;
 use gaugerules::state::INFO_BLOCKS;
@@ -112,7 +113,7 @@ fn is_protected(gauge: Gauge) -> bool
     ensures { λ r. ⌜ r ≡ isProtected gauge ⌝ }
 {
     if gauge.mode == SEALED {
-        return gauge.loaded == packed(INFO_CLASS, 0);
+        return gauge.loaded == packed(INFO_CLASS, BLOCK_A);
     }
     false
 }

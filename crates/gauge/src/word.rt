@@ -31,7 +31,9 @@ const STATUS_UNSEALED: u16 = 0x4000;
 
 const STATUS_FULL_ACCESS: u16 = 0x0000;
 
-// Where the keys begin in their class.
+// The block of their class that holds the keys, and where they begin in it.
+const KEY_BLOCK: u8 = 0;
+
 const UNSEAL_KEY: usize = 0;
 
 const FULL_ACCESS_KEY: usize = 4;
@@ -116,7 +118,7 @@ fn key_word(layout: Layout, image: &[u8], gauge: Gauge, word: u32) -> Gauge
     if gauge.pending == NO_WORD {
         return waits(gauge, word);
     }
-    let keys = block(layout, image, KEY_CLASS, 0);
+    let keys = block(layout, image, KEY_CLASS, KEY_BLOCK);
     if is_key(keys, key_wanted(gauge), gauge.pending, word) {
         return opened(gauge);
     }

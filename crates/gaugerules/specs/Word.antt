@@ -49,9 +49,12 @@ unsealKey = 0
 abbrev pub fullAccessKey : ℕ
 fullAccessKey = 4
 
--- the class's first bytes
+-- the bytes of the block that holds them
+abbrev pub keyBlock : ℕ
+keyBlock = 0
+
 abbrev pub keys : Layout → List ℕ → List ℕ
-keys l image = blockBytes l image keyClass 0
+keys l image = blockBytes l image keyClass keyBlock
 
 -- 01: "the four bytes as sent, low byte first, against the four bytes in flash order", which begin at `at`
 unfoldable pub isKey : List ℕ → ℕ → ℕ → ℕ → Bool

@@ -25,8 +25,10 @@ pub const CONTROL_FLASH: u8 = 0;
 
 pub const CONTROL_INFO: u8 = 1;
 
-// How many manufacturer info blocks there are: A, B and C.
+// The manufacturer info blocks A, B and C: how many there are, and the number of A.
 pub const INFO_BLOCKS: u8 = 3;
+
+pub const BLOCK_A: u8 = 0;
 
 #[repr(C)]
 pub struct Gauge {

@@ -13,6 +13,8 @@ fn main() {
     blocks::run();
     transactions::short_block();
     transactions::keys();
-    transactions::sealed();
+    transactions::keys_apart();
+    transactions::block_a();
+    transactions::sealing();
     session::run();
 }

@@ -45,6 +45,11 @@ pub(crate) fn keys() {
     let gauge = send(layout, &mut image, gauge, 0x00, &[0x72, 0x36]);
     let gauge = send(layout, &mut image, gauge, 0x00, &[0x00, 0x00]);
     ask(layout, &image, gauge, 0x00, &mut [0u8; 2]);
+}
+
+pub(crate) fn keys_apart() {
+    let layout = layout(33);
+    let mut image = image33();
     show_text(b"P8 words 0414 0000 3672, status\n");
     let gauge = power_on(BOOT_SEALED);
     let gauge = send(layout, &mut image, gauge, 0x00, &[0x14, 0x04]);
@@ -54,13 +59,18 @@ pub(crate) fn keys() {
     ask(layout, &image, gauge, 0x00, &mut [0u8; 2]);
 }
 
-pub(crate) fn sealed() {
+pub(crate) fn block_a() {
     let layout = layout(33);
     let mut image = image33();
     show_text(b"P9 sealed, block A, byte at 0x40\n");
     let gauge = power_on(BOOT_SEALED);
     let gauge = send(layout, &mut image, gauge, 0x3F, &[1]);
     send(layout, &mut image, gauge, 0x40, &[9]);
+}
+
+pub(crate) fn sealing() {
+    let layout = layout(33);
+    let mut image = image33();
     show_text(b"P10 block of class 48 loaded, then 0x0020: window\n");
     image[0] = 0x55;
     let gauge = power_on(BOOT_OPEN);

@@ -16,7 +16,7 @@ use Rattle.dataflash.proofs.Picks.{pick-last, on-test, on-answer, on-cond}
 use Rattle.gaugerules.specs.State.{sealed, bootSealed, noWord, controlInfo, isSealed, generalAccess, withLow, powerOn}
 use Rattle.gaugerules.specs.Valid.{maxByte, maxWord}
 use Rattle.gaugerules.specs.Register.{controlLow, controlHigh, registerOf}
-use Rattle.gaugerules.specs.Word.{word, statusWord, sealWord, resetWord, unsealKey, keys, isKey, waits, opened, keyWord, obey}
+use Rattle.gaugerules.specs.Word.{word, statusWord, sealWord, resetWord, unsealKey, keys, isKey, waits, opened, keyWord, withStatus, obey}
 use Rattle.gaugerules.specs.Transfer.{setClass, loadBlock, selectsInfo, selectBlock, editError, edit, commitError, setControl}
 use Rattle.gaugerules.specs.Write.{after, commit, writeAt, writeByte, Done, done, writeBytes, callError, write}
 use Rattle.gaugerules.specs.Script.{Device, device, Call, toWrite, toRead, next, unseals, made, obeyed, mayBeKey, entersKey}
@@ -107,9 +107,9 @@ module _ (l : Layout) (image : List ℕ) (g : Gauge) (past : List ℕ) (v : Seal
   obeys : Obeyed (obey l image g w)
   unfolding obey
   obeys =
-      on-cond Obeyed (eqb w statusWord) _ _ (λ p. obeys-other (rw p) _ (v .mode) (v .boot) (v .low) refl) (λ p.
-      on-cond Obeyed (eqb w sealWord) _ _ (λ q. obeys-other (rw (p, q)) _ refl refl (omega arith) refl) (λ q.
-      on-cond Obeyed (eqb w resetWord) _ _ (λ r. obeys-other (rw (p, q, r)) _ (rw (v .boot)) (rw (v .boot)) (omega arith) refl)
+      on-cond Obeyed (eqb w statusWord) _ _ (λ p. obeys-other (rw p) (lock (withStatus g)) (v .mode) (v .boot) (v .low) refl) (λ p.
+      on-cond Obeyed (eqb w sealWord) _ _ (λ q. obeys-other (rw (p, q)) (lock (powerOn bootSealed)) refl refl (omega arith) refl) (λ q.
+      on-cond Obeyed (eqb w resetWord) _ _ (λ r. obeys-other (rw (p, q, r)) (lock (powerOn (g .boot))) (rw (v .boot)) (rw (v .boot)) (omega arith) refl)
       (λ r. obeys-key (rw (p, q, r)))))
 
 -- ---- a byte at any register but 0x00 and 0x01 leaves the lock

@@ -1,8 +1,9 @@
 pub mod Laws
 pub mod RegisterLaws
 pub mod RunLaws
-pub mod ValidLaws
 pub mod ByteLaws
+pub mod KeyLaws
+pub mod ValidLaws
+pub mod CommitLaws
 pub mod ReadLaws
 pub mod Silence
-pub mod KeyLaws

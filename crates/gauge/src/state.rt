@@ -10,8 +10,8 @@ use gaugerules::state::NO_BLOCK;
 use gaugerules::state::NO_WORD;
 use gaugerules::state::SEALED;
 ghost use mathlib.Core.Path.{_≡_};
-ghost use Prim.Native.Nat.{_<_};
-ghost use Rattle.gaugerules.specs.State.{bootMode, bootOf, powerOn, generalAccess, packed, loadedClass, loadedBlock, unload, load};
+ghost use Prim.Native.Nat.{_+_, _*_, _<_};
+ghost use Rattle.gaugerules.specs.State.{bootMode, bootOf, powerOn, generalAccess, loadedClass, loadedBlock, unload, load};
 
 fn boot_mode(boot: u8) -> u8
     ensures { λ r. ⌜ r ≡ bootMode boot ⌝ }
@@ -68,13 +68,14 @@ pub(crate) fn wide(x: u8) -> u32
     x as u32
 }
 
-// A loaded block as one number, and its two parts.
-pub(crate) fn packed(class: u8, block: u8) -> u32
-    ensures { λ r. ⌜ r ≡ packed class block ⌝ }
+// Two bytes as one number: a control word, or a loaded block.
+pub(crate) fn join(high: u8, low: u8) -> u32
+    ensures { λ r. ⌜ r ≡ 256 * high + low ⌝ }
 {
-    256 * wide(class) + wide(block)
+    256 * wide(high) + wide(low)
 }
 
+// The two parts of a loaded block.
 pub(crate) fn loaded_class(gauge: Gauge) -> u8
     ensures { λ r. ⌜ r ≡ loadedClass gauge ⌝ }
 {
@@ -103,7 +104,7 @@ pub(crate) fn load(gauge: Gauge, byte: u8, class: u8, block: u8, window: [u8; BL
 {
     let mut next = gauge;
     next.block = byte;
-    next.loaded = packed(class, block);
+    next.loaded = join(class, block);
     next.window = window;
     next
 }

@@ -1,9 +1,9 @@
 // Block transfer: what a byte at 0x3E, 0x3F, 0x40 to 0x5F, 0x60 and 0x61 does. A refused byte hands the gauge back as it was.
 use crate::state::general_access;
+use crate::state::join;
 use crate::state::load;
 use crate::state::loaded_block;
 use crate::state::loaded_class;
-use crate::state::packed;
 use crate::state::unload;
 use dataflash::checksum::checksum;
 use dataflash::image::store_block;
@@ -113,7 +113,7 @@ fn is_protected(gauge: Gauge) -> bool
     ensures { λ r. ⌜ r ≡ isProtected gauge ⌝ }
 {
     if gauge.mode == SEALED {
-        return gauge.loaded == packed(INFO_CLASS, BLOCK_A);
+        return gauge.loaded == join(INFO_CLASS, BLOCK_A);
     }
     false
 }

@@ -15,7 +15,7 @@ ghost use mathlib.Core.Bool.{true};
 ghost use Prim.Native.Nat.{_+_, _≤_};
 ghost use lib.ListN.{length};
 ghost use Rattle.dataflash.specs.Layout.{fits};
-ghost use Rattle.gaugerules.specs.Word.{word, status, isKey, keyWanted, modeOpened, waits, opened, keyWord, withStatus, obey};
+ghost use Rattle.gaugerules.specs.Word.{status, isKey, keyWanted, modeOpened, waits, opened, keyWord, withStatus, obey};
 
 // The words that are never key words.
 const STATUS_WORD: u32 = 0x0000;
@@ -37,12 +37,6 @@ const KEY_BLOCK: u8 = 0;
 const UNSEAL_KEY: usize = 0;
 
 const FULL_ACCESS_KEY: usize = 4;
-
-pub(crate) fn word(low: u8, high: u8) -> u32
-    ensures { λ r. ⌜ r ≡ word low high ⌝ }
-{
-    256 * wide(high) + wide(low)
-}
 
 fn status(gauge: Gauge) -> u16
     ensures { λ r. ⌜ r ≡ status gauge ⌝ }

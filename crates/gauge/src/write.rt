@@ -1,6 +1,7 @@
 // A write: its bytes one by one at the register, the next and so on, until one is refused. A refused byte alters neither gauge nor
 // image; the bytes before it stand.
 use crate::register::decode;
+use crate::state::join;
 use crate::transfer::accept;
 use crate::transfer::commit;
 use crate::transfer::edit;
@@ -10,7 +11,6 @@ use crate::transfer::set_class;
 use crate::transfer::set_control;
 use crate::valid::valid;
 use crate::word::obey;
-use crate::word::word;
 use dataflash::layout::Layout;
 use dataflash::layout::fits;
 use dataflash::lookup::INVALID_LAYOUT;
@@ -47,7 +47,7 @@ fn take_word(layout: Layout, image: &[u8], gauge: Gauge, byte: u8) -> Step
     requires { ⌜ fits layout (length (now image)) ≡ true ⌝ }
     ensures { λ s. ⌜ s ≡ accept (obey layout (now (image .entry)) gauge (word (gauge .low) byte)) ⌝ }
 {
-    accept(obey(layout, image, gauge, word(gauge.low, byte)))
+    accept(obey(layout, image, gauge, join(byte, gauge.low)))
 }
 
 // One byte at a register.

@@ -5,24 +5,23 @@ use Prim.Native.Nat.{ℕ, suc, _+_, _-_}
 use mathlib.Core.Path.{_≡_, refl, ap, _∙_}
 use mathlib.Core.List.{List, [], _∷_}
 use native.Mathlib.Omega.{arith}
-use lib.Dec.{eqb, leb}
-use lib.ListN.{length, take}
+use lib.Dec.{eqb}
+use lib.ListN.{take}
 use borrow.Author.Tests.{eqb-false}
 use Rattle.dataflash.specs.Answer.{unknownBlock}
 use Rattle.dataflash.specs.Layout.{infoClass}
-use Rattle.dataflash.specs.Lookup.{findBlock}
 use Rattle.dataflash.specs.declared.layout.Layout.{Layout}
-use Rattle.dataflash.proofs.Picks.{on-test, on-answer, on-cond}
+use Rattle.dataflash.proofs.Picks.{on-test}
 use Rattle.gaugerules.specs.Error.{sealedRegister, invalidControl}
-use Rattle.gaugerules.specs.State.{controlInfo, isSealed, generalAccess}
 use Rattle.gaugerules.specs.Register.{registerOf}
-use Rattle.gaugerules.specs.Transfer.{accept, refuse, setClass, loadBlock, selectsInfo, selectBlock, editError, edit, commitError, setControl}
-use Rattle.gaugerules.specs.Write.{After, after, commit, writeAt, writeByte, Done, done, ended, writeBytes}
+use Rattle.gaugerules.specs.Transfer.{accept, refuse, loadBlock, selectBlock, editError}
+use Rattle.gaugerules.specs.Write.{After, after, writeAt, writeByte, Done, done, ended, writeBytes}
 use Rattle.gaugerules.specs.Laws.{RefusedByte, BytesStand, OnlyCommit}
 use Rattle.gaugerules.specs.declared.state.Gauge.{Gauge}
 use Rattle.gaugerules.specs.declared.register.Register.{Register}
 use Rattle.gaugerules.specs.declared.answer.Step.{Step}
 use Rattle.gaugerules.proofs.RegisterLaws.{on-register}
+use Rattle.gaugerules.proofs.StepLaws.{on-class, on-control, on-edit, on-load, on-select, on-commit}
 
 -- ---- a refused byte
 
@@ -37,40 +36,23 @@ module _ (l : Layout) (image : List ℕ) (g : Gauge) (byte : ℕ) where
   by-refuse : (e : ℕ) → Unaltered (refuse e g)
   by-refuse e n = refl
 
-  class-unaltered : Unaltered (setClass g byte)
-  unfolding setClass
-  class-unaltered = on-cond Unaltered (isSealed g) _ _ (λ _. by-refuse sealedRegister) (λ _. by-accept _)
-
-  load-unaltered : (i b : ℕ) → Unaltered (loadBlock l image g byte i b)
-  unfolding loadBlock
-  load-unaltered i b = on-answer (findBlock l (length image) i b) (λ s k p. rw p (by-accept _)) (λ e p. rw p (by-refuse e))
-
   select-unaltered : Unaltered (selectBlock l image g byte)
-  unfolding selectBlock
-  select-unaltered =
-      on-cond Unaltered (generalAccess g) _ _ (λ _. load-unaltered (g .class) byte) (λ _.
-      on-cond Unaltered (selectsInfo byte) _ _ (λ _. load-unaltered infoClass (byte - 1)) (λ _. by-refuse unknownBlock))
-
-  edit-unaltered : (k : ℕ) → Unaltered (edit g k byte)
-  unfolding edit
-  edit-unaltered k = on-cond Unaltered (eqb (editError g) 0) _ _ (λ _. by-accept _) (λ _. by-refuse (editError g))
-
-  control-unaltered : Unaltered (setControl g byte)
-  unfolding setControl
-  control-unaltered =
-      on-cond Unaltered (isSealed g) _ _ (λ _. by-refuse sealedRegister) (λ _.
-      on-cond Unaltered (leb byte controlInfo) _ _ (λ _. by-accept _) (λ _. by-refuse invalidControl))
+  select-unaltered = on-select Unaltered g byte l image (λ _. loaded (g .class) byte) (λ _ _. loaded infoClass (byte - 1)) (by-refuse unknownBlock)
+    where
+      loaded : (i b : ℕ) → Unaltered (loadBlock l image g byte i b)
+      loaded i b = on-load Unaltered g byte l image i b (λ s k p. by-accept _) by-refuse
 
   refused-at : (k : Register) → let s = writeAt k l image g byte in (s .error ≡ 0 → ⊥) → (s .gauge ≡ g) × (s .image ≡ image)
-  unfolding writeAt after commit
+  unfolding writeAt after
   refused-at Register.ControlLow n = absurd (n refl)
   refused-at Register.ControlHigh n = absurd (n refl)
-  refused-at Register.DataFlashClass n = (class-unaltered n, refl)
+  refused-at Register.DataFlashClass n = (on-class Unaltered g byte (by-refuse sealedRegister) (λ _. by-accept _) n, refl)
   refused-at Register.DataFlashBlock n = (select-unaltered n, refl)
-  refused-at (Register.BlockData k) n = (edit-unaltered k n, refl)
+  refused-at (Register.BlockData k) n = (on-edit Unaltered g byte k (λ _. by-accept _) (by-refuse (editError g)) n, refl)
   refused-at Register.BlockDataChecksum n =
-      on-cond (λ (s : After). (s .error ≡ 0 → ⊥) → (s .gauge ≡ g) × (s .image ≡ image)) (eqb (commitError g byte) 0) _ _ (λ _ z. absurd (z refl)) (λ _ _. (refl, refl)) n
-  refused-at Register.BlockDataControl n = (control-unaltered n, refl)
+      on-commit (λ (s : After). (s .error ≡ 0 → ⊥) → (s .gauge ≡ g) × (s .image ≡ image)) l image g byte (λ _ z. absurd (z refl)) (λ _. (refl, refl)) n
+  refused-at Register.BlockDataControl n =
+      (on-control Unaltered g byte (by-refuse sealedRegister) (λ _ _. by-accept _) (by-refuse invalidControl) n, refl)
   refused-at Register.Other n = (refl, refl)
 
 pub refused-byte : RefusedByte

@@ -6,24 +6,25 @@ use mathlib.Core.Path.{_≡_, refl, sym, _∙_}
 use mathlib.Core.Bool.{Bool, true, false, cond, not, true≢false}
 use mathlib.Core.List.{List, [], _∷_, _++_}
 use native.Mathlib.Omega.{arith}
-use lib.Dec.{eqb, leb}
+use lib.Dec.{eqb}
 use lib.ListN.{length, getD, take}
 use borrow.Author.Tests.{ne-eqb, eqb-true, eqb-false}
 use Rattle.dataflash.specs.Layout.{infoClass}
-use Rattle.dataflash.specs.Lookup.{findBlock}
 use Rattle.dataflash.specs.declared.layout.Layout.{Layout}
-use Rattle.dataflash.proofs.Picks.{pick-last, on-test, on-answer, on-cond}
-use Rattle.gaugerules.specs.State.{sealed, bootSealed, noWord, controlInfo, isSealed, generalAccess, withLow, powerOn}
+use Rattle.dataflash.proofs.Picks.{pick-last, on-test, on-cond}
+use Rattle.gaugerules.specs.State.{sealed, bootSealed, noWord, isSealed, withLow, powerOn}
 use Rattle.gaugerules.specs.Valid.{maxByte, maxWord}
 use Rattle.gaugerules.specs.Register.{controlLow, controlHigh, registerOf}
 use Rattle.gaugerules.specs.Word.{word, statusWord, sealWord, resetWord, unsealKey, keys, isKey, waits, opened, keyWord, withStatus, obey}
-use Rattle.gaugerules.specs.Transfer.{setClass, loadBlock, selectsInfo, selectBlock, editError, edit, commitError, setControl}
-use Rattle.gaugerules.specs.Write.{after, commit, writeAt, writeByte, Done, done, writeBytes, callError, write}
+use Rattle.gaugerules.specs.Transfer.{loadBlock}
+use Rattle.gaugerules.specs.Write.{After, after, writeAt, writeByte, Done, done, writeBytes, callError, write}
 use Rattle.gaugerules.specs.Script.{Device, device, Call, toWrite, toRead, next, unseals, made, obeyed, mayBeKey, entersKey}
 use Rattle.gaugerules.specs.Laws.{Bytes, Sendable, ByKeyAlone, UnsealsByKey}
 use Rattle.gaugerules.specs.declared.state.Gauge.{Gauge}
 use Rattle.gaugerules.specs.declared.register.Register.{Register}
+use Rattle.gaugerules.specs.declared.answer.Step.{Step}
 use Rattle.gaugerules.proofs.RegisterLaws.{on-register}
+use Rattle.gaugerules.proofs.StepLaws.{on-class, on-control, on-edit, on-load, on-select, on-commit}
 use Rattle.gaugerules.proofs.RunLaws.{goes-on}
 
 -- ---- entering the key, by the word that is pending
@@ -118,37 +119,22 @@ not-control : (r : ℕ) → controlHigh < r → (eqb r controlLow ≡ false) × 
 not-control r h = (ne-eqb r controlLow (λ e. omega arith), ne-eqb r controlHigh (λ e. omega arith))
 
 module _ (l : Layout) (image : List ℕ) (g : Gauge) (byte : ℕ) where
-  class-keeps : lock (setClass g byte .gauge) ≡ lock g
-  unfolding setClass
-  class-keeps = on-test (isSealed g) (λ p. rw p) (λ p. rw p)
+  abbrev Keeps : Step → Type 0
+  Keeps s = lock (s .gauge) ≡ lock g
 
-  load-keeps : (i b : ℕ) → lock (loadBlock l image g byte i b .gauge) ≡ lock g
-  unfolding loadBlock
-  load-keeps i b = on-answer (findBlock l (length image) i b) (λ s k p. rw p) (λ e p. rw p)
-
-  block-keeps : lock (selectBlock l image g byte .gauge) ≡ lock g
-  unfolding selectBlock
-  block-keeps =
-      on-test (generalAccess g) (λ p. rw p (load-keeps (g .class) byte)) (λ p.
-      on-test (selectsInfo byte) (λ q. rw (p, q) (load-keeps infoClass (byte - 1))) (λ q. rw (p, q)))
-
-  data-keeps : (k : ℕ) → lock (edit g k byte .gauge) ≡ lock g
-  unfolding edit
-  data-keeps k = on-test (eqb (editError g) 0) (λ p. rw p) (λ p. rw p)
-
-  checksum-keeps : lock (commit l image g byte .gauge) ≡ lock g
-  unfolding commit after
-  checksum-keeps = on-test (eqb (commitError g byte) 0) (λ p. rw p) (λ p. rw p)
-
-  control-keeps : lock (setControl g byte .gauge) ≡ lock g
-  unfolding setControl
-  control-keeps = on-test (isSealed g) (λ p. rw p) (λ p. on-test (leb byte controlInfo) (λ q. rw (p, q)) (λ q. rw (p, q)))
+  load-keeps : (i b : ℕ) → Keeps (loadBlock l image g byte i b)
+  load-keeps i b = on-load Keeps g byte l image i b (λ s k p. refl) (λ e. refl)
 
   byte-keeps : (r : ℕ) → controlHigh < r → lock (writeByte l image g r byte .gauge) ≡ lock g
   unfolding writeByte writeAt after
   byte-keeps r h =
       on-register (λ (k : Register). lock (writeAt k l image g byte .gauge) ≡ lock g) r (λ e. absurd (omega arith)) (λ e. absurd (omega arith))
-      (λ _. class-keeps) (λ _. block-keeps) (λ k _. data-keeps k) (λ _. checksum-keeps) (λ _. control-keeps) refl
+      (λ _. on-class Keeps g byte refl (λ _. refl))
+      (λ _. on-select Keeps g byte l image (λ _. load-keeps (g .class) byte) (λ _ _. load-keeps infoClass (byte - 1)) refl)
+      (λ k _. on-edit Keeps g byte k (λ _. refl) refl)
+      (λ _. on-commit (λ (s : After). lock (s .gauge) ≡ lock g) l image g byte (λ _. refl) refl)
+      (λ _. on-control Keeps g byte refl (λ _ _. refl) refl)
+      refl
 
 -- so does a run that begins above them, since its registers only grow
 run-keeps : (l : Layout) (bs image : List ℕ) (g : Gauge) (r n : ℕ) → controlHigh < r → lock (writeBytes l image g r n bs .gauge) ≡ lock g

@@ -1,5 +1,6 @@
 pub mod Laws
 pub mod RegisterLaws
+pub mod StepLaws
 pub mod RunLaws
 pub mod ByteLaws
 pub mod KeyLaws

@@ -8,21 +8,21 @@ use mathlib.Core.Logic.{_⊎_, inl, inr, ⊎-elim}
 use mathlib.Core.List.{List, [], _∷_}
 use native.Mathlib.Omega.{arith}
 use lib.Dec.{eqb, ltb}
-use lib.ListN.{length, set, length-set}
+use lib.ListN.{length, length-set}
 use borrow.Author.Tests.{eqb-true, eqb-false, leb-true, ltb-true}
 use Rattle.dataflash.specs.Answer.{unknownBlock}
 use Rattle.dataflash.specs.Choice.{all}
 use Rattle.dataflash.specs.Layout.{infoClass, fits}
-use Rattle.dataflash.specs.Lookup.{blockSize, findBlock}
+use Rattle.dataflash.specs.Lookup.{blockSize}
 use Rattle.dataflash.specs.Image.{blockBytes, storeBlock}
 use Rattle.dataflash.specs.Checksum.{loaded}
 use Rattle.dataflash.specs.declared.layout.Layout.{Layout}
 use Rattle.dataflash.proofs.Laws.{loaded-length, store-length, store-here, store-outside, store-elsewhere}
 use Rattle.dataflash.proofs.LayoutLaws.{fits-parts}
-use Rattle.dataflash.proofs.Picks.{all-first, all-rest, on-test, on-answer, on-cond}
+use Rattle.dataflash.proofs.Picks.{all-first, all-rest, on-test, on-cond}
 use Rattle.gaugerules.specs.Error.{sealedRegister, readOnly, nothingLoaded, protectedBlock}
 use Rattle.gaugerules.specs.State.{sealed, bootSealed, noBlock, controlInfo, infoBlocks, blockA, blockB, blockC, packed, loadedClass, loadedBlock}
-use Rattle.gaugerules.specs.State.{isSealed, isFullAccess, nonePending, noneLoaded, withLow, withWindow, powerOn}
+use Rattle.gaugerules.specs.State.{isSealed, isFullAccess, nonePending, noneLoaded, withLow, powerOn}
 use Rattle.gaugerules.specs.Valid.{valid, onlyInfoLoaded}
 use Rattle.gaugerules.specs.Register.{registerOf}
 use Rattle.gaugerules.specs.Word.{word, statusWord, sealWord, resetWord, keys, isKey, keyWanted, waits, keyWord, withStatus, obey}
@@ -35,6 +35,7 @@ use Rattle.gaugerules.specs.declared.state.Gauge.{Gauge}
 use Rattle.gaugerules.specs.declared.register.Register.{Register}
 use Rattle.gaugerules.specs.declared.answer.Step.{Step}
 use Rattle.gaugerules.specs.declared.answer.Written.{Written}
+use Rattle.gaugerules.proofs.StepLaws.{on-edit, on-load}
 use Rattle.gaugerules.proofs.RunLaws.{goes-on, stops, ends-after-word, is-control-high}
 use Rattle.gaugerules.proofs.ValidLaws.{valid-parts, power-on-valid}
 
@@ -117,22 +118,21 @@ module _ (g : Gauge) (byte : ℕ) (q : Quiet g) where
   unfolding setControl
   control-refused = rw (q .is-sealed)
 
-  edit-quiet : (k : ℕ) → Quiet (edit g k byte .gauge)
-  unfolding edit
+  abbrev ToQuiet : Step → Type 0
+  ToQuiet s = Quiet (s .gauge)
+
+  edit-quiet : (k : ℕ) → ToQuiet (edit g k byte)
   edit-quiet k =
-      on-cond (λ (s : Step). Quiet (s .gauge)) (eqb (editError g) 0) (accept (withWindow g (set (g .window) k byte))) _
-      (λ _. record { is-sealed = q .is-sealed; info = q .info; whole = length-set (g .window) k byte ∙ q .whole }) (λ _. q)
+      on-edit ToQuiet g byte k (λ _. record { is-sealed = q .is-sealed; info = q .info; whole = length-set (g .window) k byte ∙ q .whole }) q
 
   info-picked : selectsInfo byte ≡ true → byte - 1 < infoBlocks
   info-picked t = let p : (1 ≤ byte) × (byte ≤ infoBlocks) = search (all-first, all-rest, leb-true) in omega arith
 
   module _ (l : Layout) where
-    load-quiet : (image : List ℕ) (b : ℕ) → b < infoBlocks → Quiet (loadBlock l image g byte infoClass b .gauge)
-    unfolding loadBlock
+    load-quiet : (image : List ℕ) (b : ℕ) → b < infoBlocks → ToQuiet (loadBlock l image g byte infoClass b)
     load-quiet image b h =
-        on-answer (findBlock l (length image) infoClass b)
-        (λ s k p. rw p (record { is-sealed = q .is-sealed; info = inr (omega arith, omega arith); whole = loaded-length l image infoClass b }))
-        (λ e p. rw p q)
+        on-load ToQuiet g byte l image infoClass b
+        (λ s k p. record { is-sealed = q .is-sealed; info = inr (omega arith, omega arith); whole = loaded-length l image infoClass b }) (λ e. q)
 
     load-same : (image₁ image₂ : List ℕ) (i b : ℕ) → length image₁ ≡ length image₂ → blockBytes l image₁ i b ≡ blockBytes l image₂ i b
         → loadBlock l image₁ g byte i b ≡ loadBlock l image₂ g byte i b
@@ -144,10 +144,10 @@ module _ (g : Gauge) (byte : ℕ) (q : Quiet g) where
     unfolding selectBlock
     select-is image = rw (q .is-sealed)
 
-    select-quiet : (image : List ℕ) → Quiet (selectBlock l image g byte .gauge)
+    select-quiet : (image : List ℕ) → ToQuiet (selectBlock l image g byte)
     select-quiet image =
         rw (select-is image)
-        (on-cond (λ (s : Step). Quiet (s .gauge)) (selectsInfo byte) _ _ (λ t. load-quiet image (byte - 1) (info-picked t)) (λ _. q))
+        (on-cond ToQuiet (selectsInfo byte) _ _ (λ t. load-quiet image (byte - 1) (info-picked t)) (λ _. q))
 
     select-same : (image₁ image₂ : List ℕ) → length image₁ ≡ length image₂ → Agree l image₁ image₂ → selectBlock l image₁ g byte ≡ selectBlock l image₂ g byte
     select-same image₁ image₂ e a =

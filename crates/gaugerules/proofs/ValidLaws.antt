@@ -6,27 +6,29 @@ use mathlib.Core.Path.{_≡_, refl, sym, _∙_}
 use mathlib.Core.Bool.{true, false, true≢false}
 use mathlib.Core.List.{List, [], _∷_}
 use native.Mathlib.Omega.{arith}
-use lib.Dec.{eqb, leb}
+use lib.Dec.{eqb}
 use lib.ListN.{length, length-set}
 use borrow.Author.Tests.{eqb-true, leb-true, eq-eqb, ne-eqb, lt-ltb, le-leb}
 use Rattle.dataflash.specs.Layout.{infoClass, fits}
-use Rattle.dataflash.specs.Lookup.{blockSize, findBlock, blockExists}
+use Rattle.dataflash.specs.Lookup.{blockSize, blockExists}
 use Rattle.dataflash.specs.Image.{blockBytes}
 use Rattle.dataflash.specs.Checksum.{loaded}
 use Rattle.dataflash.specs.declared.layout.Layout.{Layout}
 use Rattle.dataflash.proofs.Laws.{loaded-length, exists-found, store-length}
-use Rattle.dataflash.proofs.Picks.{all-first, all-rest, all-both, on-test, on-answer, on-cond}
-use Rattle.gaugerules.specs.State.{unsealed, fullAccess, bootSealed, bootOpen, noWord, noBlock, controlInfo, infoBlocks, isSealed, isFullAccess, nonePending, noneLoaded, generalAccess}
+use Rattle.dataflash.proofs.Picks.{all-first, all-rest, all-both, on-test, on-cond}
+use Rattle.gaugerules.specs.Error.{nothingLoaded}
+use Rattle.gaugerules.specs.State.{unsealed, fullAccess, bootSealed, bootOpen, noWord, noBlock, controlInfo, infoBlocks, isSealed, isFullAccess, nonePending, noneLoaded}
 use Rattle.gaugerules.specs.State.{packed, loadedClass, loadedBlock, withLow, withPending, withResult, withControl, withClass, powerOn, load, unload}
 use Rattle.gaugerules.specs.Valid.{maxByte, maxWord, inRange, loadedValid, pendingValid, onlyInfoLoaded, sealedValid, valid}
 use Rattle.gaugerules.specs.Register.{registerOf}
 use Rattle.gaugerules.specs.Word.{word, statusWord, sealWord, resetWord, status, keys, isKey, keyWanted, keyWord, waits, opened, obey}
-use Rattle.gaugerules.specs.Transfer.{setClass, loadBlock, selectsInfo, selectBlock, editError, edit, commitError, committed, setControl}
-use Rattle.gaugerules.specs.Write.{After, after, commit, writeAt, writeByte, Done, done, ended, writeBytes, callError, write}
+use Rattle.gaugerules.specs.Transfer.{setClass, loadBlock, selectBlock, editError, edit, committed, setControl}
+use Rattle.gaugerules.specs.Write.{After, after, writeAt, writeByte, Done, done, ended, writeBytes, callError, write}
 use Rattle.gaugerules.specs.Laws.{Bytes, PowerOnValid, WriteValid, WriteLength}
 use Rattle.gaugerules.specs.declared.state.Gauge.{Gauge}
 use Rattle.gaugerules.specs.declared.register.Register.{Register}
 use Rattle.gaugerules.specs.declared.answer.Step.{Step}
+use Rattle.gaugerules.proofs.StepLaws.{on-class, on-control, on-edit, on-load, on-select, on-commit}
 use Rattle.gaugerules.proofs.RunLaws.{called}
 
 -- ---- what a valid gauge has
@@ -128,30 +130,25 @@ module _ (l : Layout) (g : Gauge) (v : Valid l g) where
   unload-valid x i hx hi p = record { range = omega arith; loaded = refl; pending = v .pending; sealed = rw p }
 
   class-valid : (byte : ℕ) → byte ≤ maxByte → ToValid l (setClass g byte)
-  unfolding setClass
-  class-valid byte h = on-cond (ToValid l) (isSealed g) _ _ (λ _. v) (λ p. unload-valid (g .control) byte (v .range .control) h p)
+  class-valid byte h = on-class (ToValid l) g byte v (λ s. unload-valid (g .control) byte (v .range .control) h s)
 
   control-valid : (byte : ℕ) → ToValid l (setControl g byte)
-  unfolding setControl
-  control-valid byte =
-      on-cond (ToValid l) (isSealed g) _ _ (λ _. v) (λ p.
-      on-cond (ToValid l) (leb byte controlInfo) _ _ (λ h. unload-valid byte (g .class) (leb-true _ _ h) (v .range .class) p) (λ _. v))
+  control-valid byte = on-control (ToValid l) g byte v (λ s h. unload-valid byte (g .class) h (v .range .class) s) v
 
   -- ---- the window
 
   -- what can be edited is loaded: the window of an unloaded gauge has to stay zero
-  edits-loaded : eqb (editError g) 0 ≡ true → noneLoaded g ≡ false
+  edits-loaded : editError g ≡ 0 → noneLoaded g ≡ false
   unfolding editError
-  edits-loaded e = on-test (noneLoaded g) (λ p. absurd (true≢false (sym (rw p at e)))) (λ p. p)
+  edits-loaded e = on-test (noneLoaded g) (λ p. absurd (let z : nothingLoaded ≡ 0 = rw p at e in omega arith)) (λ p. p)
 
   edit-valid : (k byte : ℕ) → ToValid l (edit g k byte)
-  unfolding edit
   edit-valid k byte =
-      on-cond (ToValid l) (eqb (editError g) 0) _ _
+      on-edit (ToValid l) g byte k
       (λ e.
       let p = edits-loaded e in
       record { range = omega (arith, length-set (g .window) k byte); loaded = rw p (rw p at (v .loaded)); pending = v .pending; sealed = v .sealed })
-      (λ _. v)
+      v
 
   -- ---- load
 
@@ -185,24 +182,17 @@ module _ (l : Layout) (g : Gauge) (v : Valid l g) where
         info s = rw (some, class-is, block-is, eq-eqb i infoClass (may s .0), lt-ltb b infoBlocks (may s .1))
 
     found-valid : (image : List ℕ) → fits l (length image) ≡ true → ToValid l (loadBlock l image g byte i b)
-    unfolding loadBlock
     found-valid image f =
-        on-answer (findBlock l (length image) i b)
-        (λ s k q. rw q (load-valid (loaded (blockBytes l image i b)) (loaded-length l image i b) (exists-found l (length image) i b f ∙ rw q)))
-        (λ e q. rw q v)
+        on-load (ToValid l) g byte l image i b
+        (λ s k q. load-valid (loaded (blockBytes l image i b)) (loaded-length l image i b) (exists-found l (length image) i b f ∙ rw q)) (λ e. v)
 
   module _ (image : List ℕ) (f : fits l (length image) ≡ true) (byte : ℕ) (h : byte ≤ maxByte) where
     select-valid : ToValid l (selectBlock l image g byte)
-    unfolding selectBlock
     select-valid =
-        on-cond (ToValid l) (generalAccess g) _ _
+        on-select (ToValid l) g byte l image
         (λ a. found-valid byte (g .class) byte h (v .range .class) h (λ s. absurd (true≢false (sym (rw s at a)))) image f)
-        (λ _.
-        on-cond (ToValid l) (selectsInfo byte) _ _
-        (λ a.
-        let info : (1 ≤ byte) × (byte ≤ infoBlocks) = search (all-first, all-rest, leb-true) in
-        found-valid byte infoClass (byte - 1) h (omega arith) (omega arith) (λ s. (refl, omega arith)) image f)
-        (λ _. v))
+        (λ low high. found-valid byte infoClass (byte - 1) h (omega arith) (omega arith) (λ s. (refl, omega arith)) image f)
+        v
 
     -- ---- any register
 
@@ -211,14 +201,14 @@ module _ (l : Layout) (g : Gauge) (v : Valid l g) where
     Stays s = Valid l (s .gauge) × (length (s .image) ≡ length image)
 
     byte-valid : (k : Register) → Stays (writeAt k l image g byte)
-    unfolding writeAt after commit committed
+    unfolding writeAt after committed
     byte-valid Register.ControlLow = (low-valid byte h, refl)
     byte-valid Register.ControlHigh = (obey-valid image (word (g .low) byte) (omega arith), refl)
     byte-valid Register.DataFlashClass = (class-valid byte h, refl)
     byte-valid Register.DataFlashBlock = (select-valid, refl)
     byte-valid (Register.BlockData k) = (edit-valid k byte, refl)
     byte-valid Register.BlockDataChecksum =
-        on-cond Stays (eqb (commitError g byte) 0) _ _ (λ _. (v, store-length l image (loadedClass g) (loadedBlock g) (g .window) (v .range .window))) (λ _. (v, refl))
+        on-commit Stays l image g byte (λ _. (v, store-length l image (loadedClass g) (loadedBlock g) (g .window) (v .range .window))) (v, refl)
     byte-valid Register.BlockDataControl = (control-valid byte, refl)
     byte-valid Register.Other = (v, refl)
 

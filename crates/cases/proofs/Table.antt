@@ -5,6 +5,11 @@ use Rattle.dataflash.specs.Layout.{classes, valid as validLayout, fits}
 use Rattle.dataflash.specs.Lookup.{findClass, findBlock, blockExists}
 use Rattle.dataflash.specs.Image.{blockBytes, storeBlock}
 use Rattle.dataflash.specs.Checksum.{loaded}
+use Rattle.bytes.specs.Bytes.{indexOf, indexAfter}
+use Rattle.hextext.specs.Hex.{digit, value}
+use Rattle.imagefile.specs.Text.{line, linesFrom, textOf}
+use Rattle.imagefile.specs.Guess.{width, addLine, guess}
+use Rattle.imagefile.specs.File.{holds, judge}
 use Rattle.gaugerules.specs.Valid.{inRange, valid}
 use Rattle.gaugerules.specs.Register.{registerOf}
 use Rattle.gaugerules.specs.Word.{isKey, keyWord, obey}
@@ -15,5 +20,5 @@ use Rattle.gaugerules.specs.Script.{reply, next}
 use Rattle.cases.specs.Cases.{answers, passes, every, cases, CasesHold}
 
 pub cases-hold : CasesHold
-unfolding answers passes every cases classes validLayout fits findClass findBlock blockExists blockBytes storeBlock loaded inRange valid registerOf isKey keyWord obey setClass loadBlock selectBlock isProtected editError edit commitError committed setControl after commit writeAt writeByte done writeBytes badSpan callError write readAt readByte readBytes seen readError read reply next
+unfolding answers passes every cases classes validLayout fits findClass findBlock blockExists blockBytes storeBlock loaded inRange valid registerOf isKey keyWord obey setClass loadBlock selectBlock isProtected editError edit commitError committed setControl after commit writeAt writeByte done writeBytes badSpan callError write readAt readByte readBytes seen readError read reply next indexOf indexAfter digit value line linesFrom textOf width addLine guess holds judge
 cases-hold = refl

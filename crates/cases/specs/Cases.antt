@@ -3,16 +3,18 @@
 -- Assumes nothing.
 use Prim.Native.Nat.{ℕ}
 use mathlib.Core.Path.{_≡_}
-use mathlib.Core.Bool.{Bool, true, false}
+use mathlib.Core.Bool.{Bool, true}
 use mathlib.Core.List.{List, [], _∷_, _++_}
 use lib.Dec.{eqb}
-use lib.ListN.{length, replicate}
+use lib.ListN.{length, replicate, take, drop, set}
 use Rattle.dataflash.specs.Answer.{errorOf, lengthOf}
-use Rattle.dataflash.specs.Choice.{all}
+use Rattle.dataflash.specs.Choice.{all, same}
 use Rattle.dataflash.specs.Layout.{size}
 use Rattle.dataflash.specs.Lookup.{findBlock}
 use Rattle.dataflash.specs.Checksum.{checksum, checksumAfter}
 use Rattle.dataflash.specs.declared.layout.Layout.{Layout}
+use Rattle.imagefile.specs.Text.{textOf}
+use Rattle.imagefile.specs.File.{judge, checkError}
 use Rattle.gaugerules.specs.State.{powerOn}
 use Rattle.gaugerules.specs.Read.{Seen, answer, seen}
 use Rattle.gaugerules.specs.Script.{Device, device, Call, toWrite, toRead, reply, next}
@@ -45,14 +47,12 @@ pub data Case : Type 0 where
   change : ℕ → ℕ → ℕ → ℕ → Case
   -- a layout, a class, a block of it, and the error number and the length that its lookup answers
   lookup : Layout → ℕ → ℕ → ℕ → ℕ → Case
+  -- a layout, an image, an index of its text, and what stands there
+  text : Layout → List ℕ → ℕ → List ℕ → Case
+  -- a text, and what judging it answers
+  file : List ℕ → ℕ → Case
   -- a layout, an image, the home at power-on, calls with what each answers, and the image after them
   session : Layout → List ℕ → ℕ → List Line → List ℕ → Case
-
-abbrev pub same : List ℕ → List ℕ → Bool
-same [] [] = true
-same [] (y ∷ ys) = false
-same (x ∷ xs) [] = false
-same (x ∷ xs) (y ∷ ys) = all (eqb x y ∷ same xs ys ∷ [])
 
 abbrev pub sameAnswer : Seen → Seen → Bool
 sameAnswer s t = all (eqb (s .error) (t .error) ∷ eqb (s .accepted) (t .accepted) ∷ same (s .buffer) (t .buffer) ∷ [])
@@ -66,6 +66,8 @@ unfoldable pub passes : Case → Bool
 passes (sum bs s) = eqb (checksum bs) s
 passes (change s old new t) = eqb (checksumAfter s old new) t
 passes (lookup l i b e n) = let a = findBlock l (size l) i b in all (eqb (errorOf a) e ∷ eqb (lengthOf a) n ∷ [])
+passes (text l image at part) = same (take (length part) (drop at (textOf l image))) part
+passes (file x e) = eqb (checkError (judge x)) e
 passes (session l image boot lines end) = answers l (device (powerOn boot) image) lines end
 
 unfoldable pub every : List Case → Bool
@@ -85,6 +87,16 @@ imageOf bytes = bytes ++ replicate 96 0 ++ (0x14 ∷ 0x04 ∷ 0x72 ∷ 0x36 ∷ 
 
 abbrev pub zeros33 : List ℕ
 zeros33 = imageOf (replicate 33 0)
+
+-- the session's
+abbrev pub layout6 : Layout
+layout6 = layoutOf 6
+
+abbrev pub image6 : List ℕ
+image6 = imageOf (0 ∷ 0 ∷ 0 ∷ 0 ∷ 0 ∷ 1 ∷ [])
+
+abbrev pub text6 : List ℕ
+text6 = textOf layout6 image6
 
 unfoldable pub cases : List Case
 cases =
@@ -135,7 +147,7 @@ cases =
     ∷ [])
     (imageOf (replicate 33 0x55))
     -- the session of "The replay program", call by call
-    ∷ session (layoutOf 6) (imageOf (0 ∷ 0 ∷ 0 ∷ 0 ∷ 0 ∷ 1 ∷ [])) 0
+    ∷ session layout6 image6 0
     (sends 0x3E (0x30 ∷ []) 3 0
     ∷ sends 0x00 (0x14 ∷ 0x04 ∷ []) 0 2
     ∷ sends 0x00 (0x72 ∷ 0x36 ∷ []) 0 2
@@ -150,6 +162,23 @@ cases =
     ∷ reads 0x00 (0x00 ∷ 0x40 ∷ [])
     ∷ [])
     (imageOf (0 ∷ 0 ∷ 0 ∷ 0 ∷ 0 ∷ 2 ∷ []))
+    -- its image file: "class 48 .., whose line is `3000000000000001FE`", "class 112 .., checksum 57"
+    ∷ text layout6 image6 0 (0x33 ∷ replicate 14 0x30 ++ (0x31 ∷ 0x46 ∷ 0x45 ∷ 0x0A ∷ []))
+    ∷ text layout6 image6 292 (0x35 ∷ 0x37 ∷ 0x0A ∷ [])
+    ∷ file text6 0
+    -- "Nothing else is accepted.": no text at all, no line feed at the end, class 112 missing
+    ∷ file [] 10
+    ∷ file (take 294 text6) 10
+    ∷ file (take 232 text6) 10
+    -- another class, another block, a NUL, a byte above 127, a wrong checksum, a lower-case digit, a carriage return, a blank
+    ∷ file (set text6 0 0x34) 10
+    ∷ file (set text6 3 0x31) 10
+    ∷ file (set text6 4 0x00) 10
+    ∷ file (set text6 4 0xB7) 10
+    ∷ file (set text6 17 0x46) 10
+    ∷ file (set text6 17 0x65) 10
+    ∷ file (set text6 18 0x0D) 10
+    ∷ file (set text6 18 0x20) 10
     ∷ []
 
 abbrev pub CasesHold : Type 0

@@ -3,6 +3,7 @@
 mod bench;
 mod blocks;
 mod checksums;
+mod files;
 mod session;
 mod text;
 mod transactions;
@@ -17,4 +18,5 @@ fn main() {
     transactions::block_a();
     transactions::sealing();
     session::run();
+    files::run();
 }

@@ -7,7 +7,7 @@ use gauge::state::power_on;
 use gaugerules::state::BOOT_SEALED;
 
 // Class 48 is 00 00 00 00 00 01, class 58 all zero, class 112 is 14 04 72 36 and 24 bytes FF.
-fn image6() -> [u8; 130] {
+pub(crate) fn image6() -> [u8; 130] {
     let mut image = [0u8; 130];
     image[5] = 0x01;
     image[102] = 0x14;

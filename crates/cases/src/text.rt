@@ -1,4 +1,5 @@
 // Lines of standard output.
+use hextext::encode_byte;
 use libc::STDOUT_FILENO;
 
 pub(crate) fn show_text(text: &[u8]) {
@@ -14,11 +15,9 @@ pub(crate) fn show(text: &[u8], answer: u64) {
 
 // Two upper-case digits, as the papers write a byte.
 pub(crate) fn show_byte(byte: u8) {
-    let digits = b"0123456789ABCDEF";
-    let high = (byte / 16) as usize;
-    let low = (byte % 16) as usize;
-    let pair = [digits[high], digits[low]];
-    show_text(&pair);
+    let mut digits = [0u8; 2];
+    encode_byte(byte, &mut digits, 0);
+    show_text(&digits);
 }
 
 pub(crate) fn show_bytes(bytes: &[u8]) {

@@ -2,11 +2,13 @@
 -- takes a goal `z ≡ cond t x y` apart so, however deep the choices nest, and finds what is known in the record of the place.
 -- Assumes nothing.
 use Prim.Native.Nat.{ℕ, _<_, _≤_}
-use borrow.Author.Tests.{eq-eqb, ne-eqb, lt-ltb, le-ltb, le-leb, lt-leb}
+use borrow.Author.Tests.{eqb-true, eq-eqb, ne-eqb, lt-ltb, le-ltb, le-leb, lt-leb}
 use mathlib.Core.Path.{_≡_, refl, sym, _∙_}
 use mathlib.Core.Bool.{Bool, true, false, cond, true≢false}
+use mathlib.Core.List.{List, [], _∷_}
 use lib.Dec.{eqb, ltb, leb}
 use Rattle.dataflash.specs.Answer.{ifFound, errorOf}
+use Rattle.dataflash.specs.Choice.{same}
 use Rattle.dataflash.specs.declared.lookup.Lookup.{Lookup}
 
 module _ {A : Type 0} (z x y : A) (a b : ℕ) where
@@ -91,6 +93,17 @@ all-rest false u e = absurd (true≢false (sym e))
 
 pub all-both : (t u : Bool) → t ≡ true → u ≡ true → cond t u false ≡ true
 all-both t u p q = rw (p, q)
+
+-- the same list, by its test
+pub same-refl : (xs : List ℕ) → same xs xs ≡ true
+same-refl [] = refl
+same-refl (x ∷ xs) = rw (eq-eqb x x refl, same-refl xs)
+
+pub same-eq : (xs ys : List ℕ) → same xs ys ≡ true → xs ≡ ys
+same-eq [] [] e = refl
+same-eq [] (y ∷ ys) e = absurd (true≢false (sym e))
+same-eq (x ∷ xs) [] e = absurd (true≢false (sym e))
+same-eq (x ∷ xs) (y ∷ ys) e = λ j. eqb-true x y (all-first (eqb x y) _ e) j ∷ same-eq xs ys (all-first _ _ (all-rest (eqb x y) _ e)) j
 
 -- a proof by the cases of a test or of an answer, which keeps what the case says
 module _ {P : Type 0} where

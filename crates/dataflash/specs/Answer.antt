@@ -29,3 +29,7 @@ unknownBlock = 5
 
 abbrev pub invalidLayout : ℕ
 invalidLayout = 10
+
+-- of a call that is lent a buffer. 14: "lent room shorter than the answer"
+abbrev pub shortBuffer : ℕ
+shortBuffer = 14

@@ -1,14 +1,21 @@
 -- A block as a part of the image: its bytes, its place, and the image after a store. Document 01, "Layout and image", last point, and
 -- "Transactions", "A commit copies ..".
 -- Assumes nothing.
-use Prim.Native.Nat.{ℕ, _+_}
+use Prim.Native.Nat.{ℕ, _+_, _≤_}
 use mathlib.Core.List.{List, []}
-use lib.ListN.{length, take, drop}
+use lib.ListN.{length, getD, take, drop}
 use lib.Seq.{paste}
 use Rattle.dataflash.specs.Answer.{ifFound}
 use Rattle.dataflash.specs.Lookup.{findBlock}
 use Rattle.dataflash.specs.declared.layout.Layout.{Layout}
 use Rattle.dataflash.specs.declared.lookup.Lookup.{Lookup}
+
+abbrev pub maxByte : ℕ
+maxByte = 255
+
+-- what the type of a slice of bytes says of its elements
+abbrev pub Bytes : List ℕ → Type 0
+Bytes bs = (k : ℕ) → getD bs k 0 ≤ maxByte
 
 -- the bytes of a part
 abbrev pub partOf : List ℕ → Lookup → List ℕ

@@ -31,13 +31,13 @@ pub struct Layout {
 }
 
 // Widened by a call: a cast of an array's element would ask each caller for the element's range.
-fn wide8(x: u8) -> usize
+pub fn wide8(x: u8) -> usize
     ensures { λ r. ⌜ (r ≡ x) × (r < 256) ⌝ }
 {
     x as usize
 }
 
-pub(crate) fn wide16(x: u16) -> usize
+pub fn wide16(x: u16) -> usize
     ensures { λ r. ⌜ (r ≡ x) × (r < 65536) ⌝ }
 {
     x as usize

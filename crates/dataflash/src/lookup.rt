@@ -19,6 +19,9 @@ pub const UNKNOWN_BLOCK: u8 = 5;
 
 pub const INVALID_LAYOUT: u8 = 10;
 
+// That of every call that is lent a buffer for its answer.
+pub const SHORT_BUFFER: u8 = 14;
+
 // What a lookup answers: a place in the image, or document 01's error number.
 pub enum Lookup {
     Found { start: usize, len: usize },
@@ -71,7 +74,7 @@ fn block_offset(block: u8) -> usize
 }
 
 // How many bytes a block has, with so many left of its class.
-fn block_length(rest: usize) -> usize
+pub fn block_length(rest: usize) -> usize
     ensures { λ r. ⌜ r ≡ min blockSize rest ⌝ }
 {
     if rest < BLOCK_SIZE { rest } else { BLOCK_SIZE }

@@ -12,9 +12,10 @@ use lib.Seq.{drop-cons}
 use borrow.Author.Tests.{eq-eqb, ne-eqb, le-leb}
 use Rattle.dataflash.specs.Choice.{all}
 use Rattle.dataflash.specs.Lookup.{blockSize, blockExists}
+use Rattle.dataflash.specs.Image.{maxByte}
 use Rattle.dataflash.specs.declared.layout.Layout.{Layout}
 use Rattle.gaugerules.specs.State.{fullAccess, bootOpen, noWord, noBlock, controlInfo, zeroWindow, bootMode, bootOf, powerOn, packed, loadedClass, loadedBlock, withBlock, withLoaded, withWindow, load}
-use Rattle.gaugerules.specs.Valid.{maxByte, maxWord, inRange, isZero}
+use Rattle.gaugerules.specs.Valid.{maxWord, inRange, isZero}
 use Rattle.gaugerules.specs.declared.state.Gauge.{Gauge}
 
 pub powers-on : (boot m h : ℕ) → m ≡ bootMode boot → h ≡ bootOf boot

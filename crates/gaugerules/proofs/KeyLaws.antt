@@ -10,16 +10,17 @@ use lib.Dec.{eqb}
 use lib.ListN.{length, getD, take}
 use borrow.Author.Tests.{ne-eqb, eqb-true, eqb-false}
 use Rattle.dataflash.specs.Layout.{infoClass}
+use Rattle.dataflash.specs.Image.{maxByte, Bytes}
 use Rattle.dataflash.specs.declared.layout.Layout.{Layout}
 use Rattle.dataflash.proofs.Picks.{pick-last, on-test, on-cond}
 use Rattle.gaugerules.specs.State.{sealed, bootSealed, noWord, isSealed, withLow, powerOn}
-use Rattle.gaugerules.specs.Valid.{maxByte, maxWord}
+use Rattle.gaugerules.specs.Valid.{maxWord}
 use Rattle.gaugerules.specs.Register.{controlLow, controlHigh, registerOf}
 use Rattle.gaugerules.specs.Word.{word, statusWord, sealWord, resetWord, unsealKey, keys, isKey, waits, opened, keyWord, withStatus, obey}
 use Rattle.gaugerules.specs.Transfer.{loadBlock}
 use Rattle.gaugerules.specs.Write.{After, after, writeAt, writeByte, Done, done, writeBytes, callError, write}
 use Rattle.gaugerules.specs.Script.{Device, device, Call, toWrite, toRead, next, unseals, made, obeyed, mayBeKey, entersKey}
-use Rattle.gaugerules.specs.Laws.{Bytes, Sendable, ByKeyAlone, UnsealsByKey}
+use Rattle.gaugerules.specs.Laws.{Sendable, ByKeyAlone, UnsealsByKey}
 use Rattle.gaugerules.specs.declared.state.Gauge.{Gauge}
 use Rattle.gaugerules.specs.declared.register.Register.{Register}
 use Rattle.gaugerules.specs.declared.answer.Step.{Step}

@@ -11,7 +11,7 @@ use lib.ListN.{length, length-set}
 use borrow.Author.Tests.{eqb-true, leb-true, eq-eqb, ne-eqb, lt-ltb, le-leb}
 use Rattle.dataflash.specs.Layout.{infoClass, fits}
 use Rattle.dataflash.specs.Lookup.{blockSize, blockExists}
-use Rattle.dataflash.specs.Image.{blockBytes}
+use Rattle.dataflash.specs.Image.{maxByte, Bytes, blockBytes}
 use Rattle.dataflash.specs.Checksum.{loaded}
 use Rattle.dataflash.specs.declared.layout.Layout.{Layout}
 use Rattle.dataflash.proofs.Laws.{loaded-length, exists-found, store-length}
@@ -19,12 +19,12 @@ use Rattle.dataflash.proofs.Picks.{all-first, all-rest, all-both, on-test, on-c
 use Rattle.gaugerules.specs.Error.{nothingLoaded}
 use Rattle.gaugerules.specs.State.{unsealed, fullAccess, bootSealed, bootOpen, noWord, noBlock, controlInfo, infoBlocks, isSealed, isFullAccess, nonePending, noneLoaded}
 use Rattle.gaugerules.specs.State.{packed, loadedClass, loadedBlock, withLow, withPending, withResult, withControl, withClass, powerOn, load, unload}
-use Rattle.gaugerules.specs.Valid.{maxByte, maxWord, inRange, loadedValid, pendingValid, onlyInfoLoaded, sealedValid, valid}
+use Rattle.gaugerules.specs.Valid.{maxWord, inRange, loadedValid, pendingValid, onlyInfoLoaded, sealedValid, valid}
 use Rattle.gaugerules.specs.Register.{registerOf}
 use Rattle.gaugerules.specs.Word.{word, statusWord, sealWord, resetWord, status, keys, isKey, keyWanted, keyWord, waits, opened, obey}
 use Rattle.gaugerules.specs.Transfer.{setClass, loadBlock, selectBlock, editError, edit, committed, setControl}
 use Rattle.gaugerules.specs.Write.{After, after, writeAt, writeByte, Done, done, ended, writeBytes, callError, write}
-use Rattle.gaugerules.specs.Laws.{Bytes, PowerOnValid, WriteValid, WriteLength}
+use Rattle.gaugerules.specs.Laws.{PowerOnValid, WriteValid, WriteLength}
 use Rattle.gaugerules.specs.declared.state.Gauge.{Gauge}
 use Rattle.gaugerules.specs.declared.register.Register.{Register}
 use Rattle.gaugerules.specs.declared.answer.Step.{Step}

@@ -1,4 +1,4 @@
--- The error numbers of a transaction. Document 01, "Numbers of the refusals"; 4, 5 and 10 are dataflash's.
+-- The error numbers of a transaction. Document 01, "Numbers of the refusals"; 4, 5, 10 and 14 are dataflash's.
 -- Assumes nothing.
 use Prim.Native.Nat.{ℕ}
 
@@ -29,10 +29,6 @@ wrongChecksum = 8
 -- 9: "0x61 byte not 0 or 1"
 abbrev pub invalidControl : ℕ
 invalidControl = 9
-
--- 14: "lent room shorter than the answer"
-abbrev pub shortBuffer : ℕ
-shortBuffer = 14
 
 -- 15: "record not sound"
 abbrev pub invalidGauge : ℕ

@@ -10,12 +10,12 @@ use Rattle.dataflash.specs.Answer.{lengthOf}
 use Rattle.dataflash.specs.Choice.{all}
 use Rattle.dataflash.specs.Layout.{infoClass, fits}
 use Rattle.dataflash.specs.Lookup.{findBlock}
-use Rattle.dataflash.specs.Image.{blockBytes}
+use Rattle.dataflash.specs.Image.{Bytes, blockBytes}
 use Rattle.dataflash.specs.Checksum.{checksum}
 use Rattle.dataflash.specs.Laws.{Within}
 use Rattle.dataflash.specs.declared.layout.Layout.{Layout}
 use Rattle.gaugerules.specs.State.{bootSealed, infoBlocks, blockB, blockC, isSealed, noneLoaded, loadedClass, loadedBlock, powerOn}
-use Rattle.gaugerules.specs.Valid.{maxByte, valid}
+use Rattle.gaugerules.specs.Valid.{valid}
 use Rattle.gaugerules.specs.Register.{blockDataChecksum}
 use Rattle.gaugerules.specs.Transfer.{isProtected}
 use Rattle.gaugerules.specs.Write.{After, done, ended, writeByte, writeBytes, write}
@@ -24,9 +24,6 @@ use Rattle.gaugerules.specs.Script.{Device, device, Call, toWrite, toRea
 use Rattle.gaugerules.specs.declared.state.Gauge.{Gauge}
 
 -- ---- a valid gauge stays valid, so that no later call is refused with 15
-
-abbrev pub Bytes : List ℕ → Type 0
-Bytes bs = (k : ℕ) → getD bs k 0 ≤ maxByte
 
 abbrev pub PowerOnValid : Type 0
 PowerOnValid = (l : Layout) (boot : ℕ) → valid l (powerOn boot) ≡ true

@@ -8,12 +8,10 @@ use lib.ListN.{length}
 use Rattle.dataflash.specs.Choice.{all}
 use Rattle.dataflash.specs.Layout.{infoClass}
 use Rattle.dataflash.specs.Lookup.{blockSize, blockExists}
+use Rattle.dataflash.specs.Image.{maxByte}
 use Rattle.dataflash.specs.declared.layout.Layout.{Layout}
 use Rattle.gaugerules.specs.State.{fullAccess, bootOpen, noWord, noBlock, controlInfo, infoBlocks, isSealed, isFullAccess, nonePending, noneLoaded, loadedClass, loadedBlock}
 use Rattle.gaugerules.specs.declared.state.Gauge.{Gauge}
-
-abbrev pub maxByte : ℕ
-maxByte = 255
 
 abbrev pub maxWord : ℕ
 maxWord = 65535

@@ -22,7 +22,7 @@ pub struct Reading {
     pub accepted: usize,
 }
 
-// The refusals of a transaction. 4, 5 and 10 are those of a lookup.
+// The refusals of a transaction. 4, 5, 10 and 14 are in crate `dataflash`.
 pub const INVALID_SPAN: u8 = 1;
 
 pub const READ_ONLY: u8 = 2;
@@ -36,7 +36,5 @@ pub const PROTECTED_BLOCK: u8 = 7;
 pub const WRONG_CHECKSUM: u8 = 8;
 
 pub const INVALID_CONTROL: u8 = 9;
-
-pub const SHORT_BUFFER: u8 = 14;
 
 pub const INVALID_GAUGE: u8 = 15;

@@ -1,0 +1,154 @@
+-- Laws of the functions that write the text: one line out of its parts, and the loops over blocks and over classes.
+-- Assumes nothing.
+use Prim.Native.Nat.{ℕ, _+_, _-_, _*_, _≤_, _<_, min}
+use mathlib.Core.Path.{_≡_, refl, ap, _∙_}
+use mathlib.Core.Bool.{true}
+use mathlib.Core.List.{List, [], _∷_, _++_}
+use native.Mathlib.Omega.{arith}
+use native.Mathlib.Decide.{decLe}
+use lib.ListN.{length, take, drop, getD, length-take, length-drop}
+use lib.Seq.{sets, length-take-le, drop-drop, take-all, take-length}
+use Rattle.hextext.specs.Hex.{hex}
+use Rattle.hextext.proofs.StoreLaws.{sets-on}
+use Rattle.hextext.proofs.Laws.{hex-length}
+use Rattle.dataflash.specs.Layout.{maxClasses, maxClassLength, classes, sizeOf, valid, fits}
+use Rattle.dataflash.specs.Lookup.{blockSize}
+use Rattle.dataflash.specs.Checksum.{checksum}
+use Rattle.dataflash.specs.declared.layout.Layout.{Layout}
+use Rattle.dataflash.proofs.LayoutLaws.{Whole, classes-next, classes-end, valid-parts, fits-parts}
+use Rattle.imagefile.specs.Text.{lineFeed, line, linesFrom, classText, classTexts, textOf, classLength, textLength, maxText}
+use Rattle.imagefile.proofs.TextLaws.{line-parts, line-length, lines-none, lines-some, class-length, Sized, ordered-sized, text-most}
+
+-- ---- one line
+
+module _ (at : ℕ) (r r₁ r₂ : List ℕ) where
+  pub head-put : (i b : ℕ) → r₁ ≡ sets r at (hex (i ∷ [])) → r₂ ≡ sets r₁ (at + 2) (hex (b ∷ [])) → r₂ ≡ sets r at (hex (i ∷ b ∷ []))
+  head-put i b p q = q ∙ sets-on r r₁ at (at + 2) (hex (i ∷ [])) (hex (b ∷ [])) p refl
+
+  pub tail-put : (sum : ℕ) → r₁ ≡ sets r at (hex (sum ∷ [])) → r₂ ≡ sets r₁ (at + 2) (lineFeed ∷ []) → r₂ ≡ sets r at (hex (sum ∷ []) ++ (lineFeed ∷ []))
+  tail-put sum p q = q ∙ sets-on r r₁ at (at + 2) (hex (sum ∷ [])) (lineFeed ∷ []) p refl
+
+  pub line-put : (i b sum : ℕ) (bytes r₃ : List ℕ) → sum ≡ checksum bytes → r₁ ≡ sets r at (hex (i ∷ b ∷ [])) → r₂ ≡ sets r₁ (at + 4) (hex bytes)
+      → r₃ ≡ sets r₂ (at + 4 + 2 * length bytes) (hex (sum ∷ []) ++ (lineFeed ∷ [])) → r₃ ≡ sets r at (line i b bytes)
+  line-put i b sum bytes r₃ s p q t =
+      let tail = hex (sum ∷ []) ++ (lineFeed ∷ []) in
+      rw (line-parts i b bytes, ← s)
+      (t ∙ sets-on r₁ r₂ (at + 4) (at + 4 + 2 * length bytes) (hex bytes) tail q (rw (hex-length bytes))
+      ∙ sets-on r r₁ at (at + 4) (hex (i ∷ b ∷ [])) (hex bytes ++ tail) p refl)
+
+-- ---- the blocks of a class
+
+-- a block of what is left, which has as many bytes as that
+pub block-put : (i b from n at : ℕ) (bytes r r′ : List ℕ) → n ≡ min blockSize (length bytes - from)
+    → r′ ≡ sets r at (line i b (take (from + n - from) (drop from bytes))) → r′ ≡ sets r at (line i b (take blockSize (drop from bytes)))
+block-put i b from n at bytes r r′ p e =
+    let k : from + n - from ≡ min blockSize (length (drop from bytes)) = rw (length-drop from bytes) (omega arith) in
+    rw (← take-min blockSize (drop from bytes), ← k) e
+  where
+    take-min : (k : ℕ) (l : List ℕ) → take (min k (length l)) l ≡ take k l
+    take-min k l = elim (decLe k (length l)) [ yes h ↦ (let e : min k (length l) ≡ k = omega arith in rw e) | no h ↦ (let e : min k (length l) ≡ length l = omega arith in rw (e, take-length l, take-all k l (omega arith))) ]
+
+-- the room that is left for the next blocks
+pub blocks-room : (n from at at′ m m′ : ℕ) → at + classLength (n - from) ≤ m → from < n → at′ ≡ at + (2 * min blockSize (n - from) + 7) → m′ ≡ m
+    → at′ + classLength (n - (from + blockSize)) ≤ m′
+blocks-room n from at at′ m m′ h f p q =
+    elim (decLe (n - from) blockSize) [
+      | yes g ↦ (let z : n - (from + blockSize) ≡ 0 = omega arith in rw z (omega arith))
+      | no g ↦ (let z : n - from ≡ n - (from + blockSize) + 32 = omega arith in omega arith)
+    ]
+
+-- the loop: `e` is its invariant
+module _ (i b from at : ℕ) (bytes r z : List ℕ) (e : sets r at (linesFrom i b (drop from bytes)) ≡ z) where
+  pub blocks-more : (r′ : List ℕ) (next : ℕ) → from < length bytes → r′ ≡ sets r at (line i b (take blockSize (drop from bytes)))
+      → next ≡ at + (2 * min blockSize (length bytes - from) + 7) → sets r′ next (linesFrom i (b + 1) (drop (from + blockSize) bytes)) ≡ z
+  blocks-more r′ next h p q =
+      let d = length-drop from bytes in
+      let part = take blockSize (drop from bytes) in
+      let n : next ≡ at + length (line i b part) = q ∙ rw (line-length i b part) (omega (arith, length-take blockSize (drop from bytes), d)) in
+      sets-on r r′ at next (line i b part) (linesFrom i (b + 1) (drop (from + blockSize) bytes)) p n
+      ∙ rw (drop-drop blockSize from bytes) at (rw (lines-some i b (drop from bytes) (omega arith)) at e)
+
+  pub blocks-end : length bytes ≤ from → r ≡ z
+  blocks-end h = rw (lines-none i b (drop from bytes) (rw (length-drop from bytes) (omega arith))) at e
+
+-- the class is the part that was lent
+pub part-put : (i from n at : ℕ) (image r r′ : List ℕ) → r′ ≡ sets r at (classText i (take (from + n - from) (drop from image))) → r′ ≡ sets r at (classText i (take n (drop from image)))
+part-put i from n at image r r′ e = let k : from + n - from ≡ n = omega arith in rw k at e
+
+-- ---- the length of the text
+
+pub valid-whole : (l : Layout) → length (l .ids) ≡ maxClasses → length (l .lengths) ≡ maxClasses → valid l ≡ true → Whole l
+valid-whole l hi hn e = record { ids = hi; lengths = hn; used = valid-parts l e .used }
+
+-- the loop: `e` is its invariant
+module _ (l : Layout) (k sum : ℕ) (w : Whole l) (e : sum + textLength (drop k (classes l)) ≡ textLength (classes l)) where
+  pub length-end : l .count ≤ k → sum ≡ textLength (classes l)
+  length-end h = let q : textLength (drop k (classes l)) ≡ 0 = ap textLength (classes-end l k w h) in omega arith
+
+  pub length-most : valid l ≡ true → l .count ≤ k → sum ≤ maxText
+  length-most v h = omega (arith, length-end h, text-most l v)
+
+  pub length-more : (n c : ℕ) → n ≡ getD (l .lengths) k 0 → c ≡ classLength n → k < l .count → sum + c + textLength (drop (k + 1) (classes l)) ≡ textLength (classes l)
+  length-more n c p q h = let t = ap textLength (classes-next l k w h) in let u : classLength n ≡ classLength (getD (l .lengths) k 0) = ap classLength p in omega arith
+
+-- ---- the classes of an image
+
+-- what holds at the head of the loop: at class k, whose bytes begin at `from` of the image and whose lines go to `at` of the buffer
+pub record At (l : Layout) (image r₀ : List ℕ) (k from at : ℕ) (r : List ℕ) : Type 0 where
+  pub whole : Whole l
+  pub sized : Sized (drop k (classes l))
+  pub start : from ≤ length image
+  pub left : from + sizeOf (drop k (classes l)) ≡ length image
+  pub place : at ≤ length r
+  pub room : at + textLength (drop k (classes l)) ≤ length r
+  pub long : length r ≡ length r₀
+  pub same : sets r at (classTexts (drop k (classes l)) (drop from image)) ≡ sets r₀ 0 (textOf l image)
+
+pub at-start : (l : Layout) (image r : List ℕ) → length (l .ids) ≡ maxClasses → length (l .lengths) ≡ maxClasses → fits l (length image) ≡ true → textLength (classes l) ≤ length r → At l image r 0 0 0 r
+unfolding textOf
+at-start l image r hi hn f h =
+    let p = fits-parts l (length image) f in
+    let v = valid-parts l (p .0) in
+    record {
+      whole = valid-whole l hi hn (p .0);
+      sized = ordered-sized 0 (classes l) (v .order);
+      start = omega arith;
+      left = omega (arith, p .1);
+      place = omega arith;
+      room = omega arith;
+      long = refl;
+      same = refl;
+    }
+
+module _ (l : Layout) (image r₀ : List ℕ) (k from at : ℕ) (r : List ℕ) (v : At l image r₀ k from at r) where
+  pub at-end : l .count ≤ k → r ≡ sets r₀ 0 (textOf l image)
+  at-end h = rw (classes-end l k (v .whole) h) at (v .same)
+
+  module _ (h : k < l .count) (n : ℕ) (p : n ≡ getD (l .lengths) k 0) where
+    next : drop k (classes l) ≡ record { id = getD (l .ids) k 0; len = getD (l .lengths) k 0 } ∷ drop (k + 1) (classes l)
+    next = classes-next l k (v .whole) h
+
+    pub part-small : n ≤ maxClassLength
+    part-small = rw p ((rw next at (v .sized)) .1)
+
+    pub part-inside : from + n ≤ length image
+    part-inside = let g = rw (next, ← p) at (v .left) in omega arith
+
+    pub part-room : at + classLength n ≤ length r
+    part-room = let g = rw (next, ← p) at (v .room) in omega arith
+
+    pub at-next : (r′ : List ℕ) (at′ : ℕ) → length r′ ≡ length r → r′ ≡ sets r at (classText (getD (l .ids) k 0) (take n (drop from image))) → at′ ≡ at + classLength n → At l image r₀ (k + 1) (from + n) at′ r′
+    at-next r′ at′ q e a =
+        let part = take n (drop from image) in
+        let m : length part ≡ n = length-take-le n (drop from image) (rw (length-drop from image) (omega (arith, part-inside))) in
+        let t : at′ ≡ at + length (classText (getD (l .ids) k 0) part) = a ∙ rw (class-length (getD (l .ids) k 0) part, m) in
+        record {
+          whole = v .whole;
+          sized = (rw next at (v .sized)) .2;
+          start = part-inside;
+          left = (let g = rw next at (v .left) in omega arith);
+          place = omega (arith, part-room);
+          room = (let g = rw (next, ← p) at (v .room) in omega arith);
+          long = q ∙ v .long;
+          same = sets-on r r′ at at′ (classText (getD (l .ids) k 0) part) (classTexts (drop (k + 1) (classes l)) (drop (from + n) image)) e t ∙ rw (← drop-drop n from image) (rw (next, ← p) at (v .same));
+        }

@@ -1,0 +1,15 @@
+-- `imagefile::file::check` meets its contract. By the judgement.
+-- Assumes nothing.
+use borrow.Author.Needs.{needs}
+use Rattle.imagefile.proofs.FileLaws.{check-good, check-bad}
+use Rattle.imagefile.proofs.file.check.Statement.{statement}
+use Rattle.imagefile.proofs.file.check.Tie as tie
+
+pub check-spec : {M : Type 1} → statement M
+check-spec =
+    tie.close
+    (tie.spec
+    (λ c. search needs)
+    (λ c κs. search needs)
+    (λ c. search check-good)
+    (λ c. search check-bad))

@@ -1,0 +1,34 @@
+-- `imagefile::guess::guess` meets its contract. The invariant: what is left of the text gives what the whole gives.
+-- Assumes nothing.
+use borrow.Author.Needs.{needs}
+use Prim.Native.Nat.{_-_}
+use Rattle.imagefile.specs.Text.{maxLines}
+use Rattle.imagefile.proofs.GuessLaws.{At, at-start, all-lines, no-line, line-inside, at-next}
+use Rattle.imagefile.proofs.guess.guess.Statement.{statement}
+use Rattle.imagefile.proofs.guess.guess.Tie as tie
+
+abbrev Inv-loop : tie.InvT-loop
+Inv-loop text buffer₀ layout₀ at₀ out₀ n₀ buffer layout at out n = At text buffer₀ layout at out n buffer
+
+abbrev μ-loop : tie.MeasureT-loop
+μ-loop text buffer₀ layout₀ at₀ out₀ n₀ buffer layout at out n = maxLines - n
+
+pub guess-spec : {M : Type 1} → statement M
+guess-spec =
+    tie.close
+    (tie.spec
+    Inv-loop
+    μ-loop
+    (λ c κs. search needs)
+    (λ c. search (needs, at-start))
+    (λ c κs. search needs)
+    (λ c. search needs)
+    (λ c. (search no-line, search needs))
+    (λ c κs. search line-inside)
+    (λ c κs. search needs)
+    (λ c. search needs)
+    (λ c. search needs)
+    (λ c. search needs)
+    (λ c. search (needs, at-next))
+    (λ c. search needs)
+    (λ c. (search all-lines, search needs)))

@@ -1,0 +1,15 @@
+-- `imagefile::guess::is_last` meets its contract. By the tests.
+-- Assumes nothing.
+use borrow.Author.Needs.{needs}
+use Rattle.dataflash.proofs.Picks.{picks}
+use Rattle.imagefile.proofs.guess.is_last.Statement.{statement}
+use Rattle.imagefile.proofs.guess.is_last.Tie as tie
+
+pub is-last-spec : {M : Type 1} → statement M
+is-last-spec =
+    tie.close
+    (tie.spec
+    (λ c. search needs)
+    (λ c. search needs)
+    (λ c. search picks)
+    (λ c. search picks))

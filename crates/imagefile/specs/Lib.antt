@@ -1,0 +1,4 @@
+pub mod Text
+pub mod Guess
+pub mod File
+pub mod Laws

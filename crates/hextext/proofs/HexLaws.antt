@@ -79,7 +79,8 @@ unhex-length (suc n) (a ∷ b ∷ x) e = ap suc (unhex-length n x (omega arith))
 -- ---- the loop that writes: `e` is its invariant
 
 -- one byte
-pub encoded : (b at h l : ℕ) (r r₁ r₂ : List ℕ) → h ≡ digit (b / 16) → l ≡ digit b → r₁ ≡ set r at h → r₂ ≡ set r₁ (at + 1) l → r₂ ≡ sets r at (hex (b ∷ []))
+pub encoded : (b at h l : ℕ) (r r₁ r₂ : List ℕ) → h ≡ digit (b / 16) → l ≡ digit b → r₁ ≡ set r at h
+    → r₂ ≡ set r₁ (at + 1) l → r₂ ≡ sets r at (hex (b ∷ []))
 encoded b at h l r r₁ r₂ p q u v = let s : suc at ≡ at + 1 = omega arith in rw (s, ← p, ← q, ← u) v
 
 module _ (bs r z : List ℕ) (i out : ℕ) (e : sets r out (hex (drop i bs)) ≡ z) where

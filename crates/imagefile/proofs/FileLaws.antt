@@ -31,7 +31,8 @@ module _ (l : Layout) (n : ℕ) (t : Bool) (p : t ≡ fits l n) (q : t ≡ true)
   pub call-valid : valid l ≡ true
   call-valid = fits-parts l n call-fits .0
 
-call-length : (l : Layout) (image : List ℕ) (t : Bool) → t ≡ fits l (length image) → t ≡ true → (n : ℕ) → n ≡ textLength (classes l) → n ≡ length (textOf l image)
+call-length : (l : Layout) (image : List ℕ) (t : Bool) → t ≡ fits l (length image) → t ≡ true → (n : ℕ) → n ≡ textLength (classes l)
+    → n ≡ length (textOf l image)
 call-length l image t p q n e = e ∙ sym (text-length l image (call-fits l (length image) t p q))
 
 -- ---- the comparison
@@ -54,7 +55,8 @@ module _ (l : Layout) (image x : List ℕ) (t : Bool) (p : t ≡ fits l (length 
       rw (← p, q) (same-is (textOf l image) x u (λ a. sym w ∙ f a) (λ a. g (w ∙ a)))
 
 -- the judgement of a guess, whose bytes are a part that was lent
-pub judged : (l : Layout) (d x : List ℕ) (n : ℕ) (t : Bool) → content l (take n d) ≡ guess x → t ≡ holds (content l (take (n - 0) (drop 0 d))) x → t ≡ holds (guess x) x
+pub judged : (l : Layout) (d x : List ℕ) (n : ℕ) (t : Bool) → content l (take n d) ≡ guess x
+    → t ≡ holds (content l (take (n - 0) (drop 0 d))) x → t ≡ holds (guess x) x
 judged l d x n t e p = rw (sub-zero, e) at p
 
 module _ (x : List ℕ) (t : Bool) (p : t ≡ holds (guess x) x) where

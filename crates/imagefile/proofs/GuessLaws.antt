@@ -75,7 +75,8 @@ line-of x w p h =
 pub class-at : (x : List ℕ) (at c : ℕ) → c ≡ pair (getD x at 0) (getD x (at + 1) 0) → c ≡ classByte (drop at x)
 class-at x at c p = p ∙ rw (getD-drop at x 0 0, getD-drop at x 1 0, add-zero)
 
-pub bytes-at : (x r r′ : List ℕ) (at w out : ℕ) → r′ ≡ sets r out (unhex (take (at + 4 + 2 * w - (at + 4)) (drop (at + 4) x))) → r′ ≡ sets r out (unhex (take (2 * w) (drop (at + 4) x)))
+pub bytes-at : (x r r′ : List ℕ) (at w out : ℕ) → r′ ≡ sets r out (unhex (take (at + 4 + 2 * w - (at + 4)) (drop (at + 4) x)))
+    → r′ ≡ sets r out (unhex (take (2 * w) (drop (at + 4) x)))
 bytes-at x r r′ at w out e = rw (add-sub-cancel-left (at + 4) (2 * w)) at e
 
 -- ---- the layout, line by line
@@ -114,7 +115,7 @@ module _ (l : Layout) where
 -- ---- the loop
 
 -- what holds at its head: behind n lines, at an index of the text, with so many bytes in front of the buffer
-pub record At (x r₀ : List ℕ) (l : Layout) (at out n : ℕ) (r : List ℕ) : Type 0 where
+pub record LineAt (x r₀ : List ℕ) (l : Layout) (at out n : ℕ) (r : List ℕ) : Type 0 where
   pub within : n ≤ maxLines
   pub start : at ≤ length x
   pub used : out ≤ blockSize * n
@@ -123,11 +124,20 @@ pub record At (x r₀ : List ℕ) (l : Layout) (at out n : ℕ) (r : List ℕ) :
   pub long : length r ≡ length r₀
   pub same : gather (maxLines - n) l (take out r) (drop at x) ≡ guess x
 
-pub at-start : (x r : List ℕ) (l : Layout) → l ≡ noClasses → maxLines * blockSize ≤ length r → At x r l 0 0 0 r
+pub line-start : (x r : List ℕ) (l : Layout) → l ≡ noClasses → maxLines * blockSize ≤ length r → LineAt x r l 0 0 0 r
 unfolding guess
-at-start x r l e h = record { within = omega arith; start = omega arith; used = omega arith; entries = rw e (omega arith); room = h; long = refl; same = ap (λ (k : Layout). gather maxLines k [] x) e }
+line-start x r l e h =
+    record {
+      within = omega arith;
+      start = omega arith;
+      used = omega arith;
+      entries = rw e (omega arith);
+      room = h;
+      long = refl;
+      same = ap (λ (k : Layout). gather maxLines k [] x) e;
+    }
 
-module _ (x r₀ : List ℕ) (l : Layout) (at out n : ℕ) (r : List ℕ) (v : At x r₀ l at out n r) where
+module _ (x r₀ : List ℕ) (l : Layout) (at out n : ℕ) (r : List ℕ) (v : LineAt x r₀ l at out n r) where
   pub all-lines : maxLines ≤ n → content l (take out r) ≡ guess x
   all-lines h = let z : maxLines - n ≡ 0 = omega arith in rw z at (v .same)
 
@@ -147,9 +157,9 @@ module _ (x r₀ : List ℕ) (l : Layout) (at out n : ℕ) (r : List ℕ) (v : A
       line-room : out + w ≤ length r
       line-room = let t = line-of (drop at x) w p some in omega (arith, t, v .used, v .room)
 
-      pub at-next : (c a : ℕ) (l′ : Layout) (r′ : List ℕ) → c ≡ classByte (drop at x) → l′ ≡ addLine l c w → l′ .count ≤ maxClasses → a ≡ at + indexOf lineFeed (drop at x) + 1
-          → r′ ≡ sets r out (unhex (take (2 * w) (drop (at + 4) x))) → At x r₀ l′ a (out + w) (n + 1) r′
-      at-next c a l′ r′ pc pl u pa pr =
+      pub line-next : (c a : ℕ) (l′ : Layout) (r′ : List ℕ) → c ≡ classByte (drop at x) → l′ ≡ addLine l c w → l′ .count ≤ maxClasses
+          → a ≡ at + indexOf lineFeed (drop at x) + 1 → r′ ≡ sets r out (unhex (take (2 * w) (drop (at + 4) x))) → LineAt x r₀ l′ a (out + w) (n + 1) r′
+      line-next c a l′ r′ pc pl u pa pr =
           let t = line-of (drop at x) w p some in
           let y = take (2 * w) (drop (at + 4) x) in
           let ly : length y ≡ 2 * w = length-take-le (2 * w) (drop (at + 4) x) (rw (length-drop (at + 4) x) (omega (arith, line-inside))) in
@@ -163,5 +173,7 @@ module _ (x r₀ : List ℕ) (l : Layout) (at out n : ℕ) (r : List ℕ) (v : A
             entries = u;
             room = rw lr (v .room);
             long = lr ∙ v .long;
-            same = rw (front, pl, pc, ← ea, ← drop-drop (indexOf lineFeed (drop at x) + 1) at x, ← drop-drop 4 at x, p) (rw (next, ne-eqb (width (drop at x)) 0 (λ z. some (p ∙ z))) at (v .same));
+            same =
+                rw (front, pl, pc, ← ea, ← drop-drop (indexOf lineFeed (drop at x) + 1) at x, ← drop-drop 4 at x, p)
+                (rw (next, ne-eqb (width (drop at x)) 0 (λ z. some (p ∙ z))) at (v .same));
           }

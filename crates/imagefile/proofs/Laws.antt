@@ -2,4 +2,4 @@
 -- Assumes nothing.
 pub use Rattle.imagefile.proofs.TextLaws.{text-length}
 pub use Rattle.imagefile.proofs.BlockLaws.{block-line}
-pub use Rattle.imagefile.proofs.RoundTrip.{written-read, accepted-text, one-only, write-then-read, read-then-write}
+pub use Rattle.imagefile.proofs.RoundTrip.{written-read, accepted-text, check-accepts, one-only, write-then-read, read-then-write}

@@ -19,8 +19,8 @@ use Rattle.dataflash.proofs.LayoutLaws.{valid-parts, fits-parts}
 use Rattle.dataflash.proofs.Picks.{same-refl, same-eq, all-first, all-rest, on-test, on-cond}
 use Rattle.imagefile.specs.Text.{textOf, maxLines}
 use Rattle.imagefile.specs.Guess.{width, classByte, lineBytes, nextLine, noClasses, isLast, longer, another, addLine, Content, content, gather, guess}
-use Rattle.imagefile.specs.File.{holds, Judged, accepted, refused, judge, readJudged, read, write}
-use Rattle.imagefile.specs.Laws.{Fitting, inUse, cleared, WrittenRead, IsText, AcceptedText, OneOnly, WriteThenRead, ReadThenWrite}
+use Rattle.imagefile.specs.File.{holds, Judged, accepted, refused, judge, checkError, readJudged, read, write}
+use Rattle.imagefile.specs.Laws.{Fitting, inUse, cleared, WrittenRead, IsText, AcceptedText, TextOfSome, CheckAccepts, OneOnly, WriteThenRead, ReadThenWrite}
 use Rattle.imagefile.proofs.ClassLaws.{guess-text}
 
 -- ---- a cleared layout has the same classes
@@ -139,6 +139,13 @@ module _ (x : List ℕ) (l : Layout) (image : List ℕ) where
 
 pub accepted-text : AcceptedText
 accepted-text x l image = (read-is x l image, is-read x l image)
+
+pub check-accepts : CheckAccepts
+check-accepts x = (λ e. by (judge x) refl e, λ t. rw (← t .text, written-read (t .layout) (t .image) (t .fitting)))
+  where
+    by : (j : Judged) → judge x ≡ j → checkError j ≡ 0 → TextOfSome x
+    by refused p e = absurd (omega arith)
+    by (accepted l image) p e = let t = read-is x l image p in record { layout = l; image = image; fitting = t .fitting; text = t .text }
 
 pub one-only : OneOnly
 one-only l l′ image image′ t t′ e =

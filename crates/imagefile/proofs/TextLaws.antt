@@ -1,4 +1,4 @@
--- Laws of the text of an image: how long it is, block by block and class by class, and the loops that write it.
+-- Laws of the text of an image: its lines, block by block and class by class, how many there are and how long they are.
 -- Assumes nothing.
 use Prim.Native.Nat.{ℕ, zero, suc, _+_, _*_, _≤_}
 use mathlib.Core.Path.{_≡_, refl}
@@ -24,9 +24,11 @@ use Rattle.imagefile.specs.Laws.{TextLength}
 -- ---- one line
 
 -- in the order in which its parts are written
-pub line-parts : (i b : ℕ) (bytes : List ℕ) → line i b bytes ≡ hex (i ∷ b ∷ []) ++ (hex bytes ++ (hex (checksum bytes ∷ []) ++ (lineFeed ∷ [])))
+pub line-parts : (i b : ℕ) (bytes : List ℕ)
+    → line i b bytes ≡ hex (i ∷ b ∷ []) ++ (hex bytes ++ (hex (checksum bytes ∷ []) ++ (lineFeed ∷ [])))
 unfolding line
-line-parts i b bytes = rw (hex-append bytes (checksum (loaded bytes) ∷ []), checksum-loaded bytes, append-assoc (hex bytes) (hex (checksum bytes ∷ [])) (lineFeed ∷ []))
+line-parts i b bytes =
+    rw (hex-append bytes (checksum (loaded bytes) ∷ []), checksum-loaded bytes, append-assoc (hex bytes) (hex (checksum bytes ∷ [])) (lineFeed ∷ []))
 
 pub line-length : (i b : ℕ) (bytes : List ℕ) → length (line i b bytes) ≡ 2 * length bytes + 7
 line-length i b bytes = rw (line-parts i b bytes) (simp (length-append, hex-length) (omega arith))
@@ -37,7 +39,8 @@ pub lines-none : (i b : ℕ) (bytes : List ℕ) → length bytes ≡ 0 → lines
 unfolding linesFrom
 lines-none i b bytes h = rw h
 
-pub lines-some : (i b : ℕ) (bytes : List ℕ) → 1 ≤ length bytes → linesFrom i b bytes ≡ line i b (take blockSize bytes) ++ linesFrom i (b + 1) (drop blockSize bytes)
+pub lines-some : (i b : ℕ) (bytes : List ℕ) → 1 ≤ length bytes
+    → linesFrom i b bytes ≡ line i b (take blockSize bytes) ++ linesFrom i (b + 1) (drop blockSize bytes)
 unfolding linesFrom
 lines-some i b bytes h =
     let n : blockCount (length bytes) ≡ suc (blockCount (length (drop blockSize bytes))) = rw (length-drop blockSize bytes) (omega arith) in

@@ -22,10 +22,12 @@ use Rattle.imagefile.proofs.TextLaws.{line-parts, line-length, lines-no
 -- ---- one line
 
 module _ (at : ℕ) (r r₁ r₂ : List ℕ) where
-  pub head-put : (i b : ℕ) → r₁ ≡ sets r at (hex (i ∷ [])) → r₂ ≡ sets r₁ (at + 2) (hex (b ∷ [])) → r₂ ≡ sets r at (hex (i ∷ b ∷ []))
+  pub head-put : (i b : ℕ) → r₁ ≡ sets r at (hex (i ∷ [])) → r₂ ≡ sets r₁ (at + 2) (hex (b ∷ []))
+      → r₂ ≡ sets r at (hex (i ∷ b ∷ []))
   head-put i b p q = q ∙ sets-on r r₁ at (at + 2) (hex (i ∷ [])) (hex (b ∷ [])) p refl
 
-  pub tail-put : (sum : ℕ) → r₁ ≡ sets r at (hex (sum ∷ [])) → r₂ ≡ sets r₁ (at + 2) (lineFeed ∷ []) → r₂ ≡ sets r at (hex (sum ∷ []) ++ (lineFeed ∷ []))
+  pub tail-put : (sum : ℕ) → r₁ ≡ sets r at (hex (sum ∷ [])) → r₂ ≡ sets r₁ (at + 2) (lineFeed ∷ [])
+      → r₂ ≡ sets r at (hex (sum ∷ []) ++ (lineFeed ∷ []))
   tail-put sum p q = q ∙ sets-on r r₁ at (at + 2) (hex (sum ∷ [])) (lineFeed ∷ []) p refl
 
   pub line-put : (i b sum : ℕ) (bytes r₃ : List ℕ) → sum ≡ checksum bytes → r₁ ≡ sets r at (hex (i ∷ b ∷ [])) → r₂ ≡ sets r₁ (at + 4) (hex bytes)
@@ -46,33 +48,54 @@ block-put i b from n at bytes r r′ p e =
     rw (← take-min blockSize (drop from bytes), ← k) e
   where
     take-min : (k : ℕ) (l : List ℕ) → take (min k (length l)) l ≡ take k l
-    take-min k l = elim (decLe k (length l)) [ yes h ↦ (let e : min k (length l) ≡ k = omega arith in rw e) | no h ↦ (let e : min k (length l) ≡ length l = omega arith in rw (e, take-length l, take-all k l (omega arith))) ]
+    take-min k l =
+        elim (decLe k (length l)) [
+          | yes h ↦ (let e : min k (length l) ≡ k = omega arith in rw e)
+          | no h ↦ (let e : min k (length l) ≡ length l = omega arith in rw (e, take-length l, take-all k l (omega arith)))
+        ]
 
--- the room that is left for the next blocks
-pub blocks-room : (n from at at′ m m′ : ℕ) → at + classLength (n - from) ≤ m → from < n → at′ ≡ at + (2 * min blockSize (n - from) + 7) → m′ ≡ m
-    → at′ + classLength (n - (from + blockSize)) ≤ m′
-blocks-room n from at at′ m m′ h f p q =
-    elim (decLe (n - from) blockSize) [
-      | yes g ↦ (let z : n - (from + blockSize) ≡ 0 = omega arith in rw z (omega arith))
-      | no g ↦ (let z : n - from ≡ n - (from + blockSize) + 32 = omega arith in omega arith)
+-- what holds at the head of the loop: at block b, whose bytes begin at `from` and whose line goes to `at` of the buffer
+pub record BlockAt (i at₀ : ℕ) (bytes r₀ : List ℕ) (b from at : ℕ) (r : List ℕ) : Type 0 where
+  pub place : from ≡ blockSize * b
+  pub room : at + classLength (length bytes - from) ≤ length r
+  pub long : length r ≡ length r₀
+  pub same : sets r at (linesFrom i b (drop from bytes)) ≡ sets r₀ at₀ (classText i bytes)
+
+pub block-start : (i at : ℕ) (bytes r : List ℕ) → at + classLength (length bytes) ≤ length r → BlockAt i at bytes r 0 0 at r
+block-start i at bytes r h = record { place = refl; room = omega arith; long = refl; same = refl }
+
+-- the room that is left behind a block of n bytes or less
+room-left : (n at at′ m : ℕ) → at + classLength n ≤ m → 1 ≤ n → at′ ≡ at + (2 * min blockSize n + 7) → at′ + classLength (n - blockSize) ≤ m
+room-left n at at′ m h f p =
+    elim (decLe n blockSize) [
+      | yes g ↦ (let z : n - blockSize ≡ 0 = omega arith in rw z (omega arith))
+      | no g ↦ (let z : n ≡ n - blockSize + 32 = omega arith in omega arith)
     ]
 
--- the loop: `e` is its invariant
-module _ (i b from at : ℕ) (bytes r z : List ℕ) (e : sets r at (linesFrom i b (drop from bytes)) ≡ z) where
-  pub blocks-more : (r′ : List ℕ) (next : ℕ) → from < length bytes → r′ ≡ sets r at (line i b (take blockSize (drop from bytes)))
-      → next ≡ at + (2 * min blockSize (length bytes - from) + 7) → sets r′ next (linesFrom i (b + 1) (drop (from + blockSize) bytes)) ≡ z
-  blocks-more r′ next h p q =
+module _ (i at₀ : ℕ) (bytes r₀ : List ℕ) (b from at : ℕ) (r : List ℕ) (v : BlockAt i at₀ bytes r₀ b from at r) where
+  pub block-end : length bytes ≤ from → r ≡ sets r₀ at₀ (classText i bytes)
+  block-end h = rw (lines-none i b (drop from bytes) (rw (length-drop from bytes) (omega arith))) at (v .same)
+
+  pub block-next : (r′ : List ℕ) (at′ : ℕ) → from < length bytes → length r′ ≡ length r
+      → r′ ≡ sets r at (line i b (take blockSize (drop from bytes))) → at′ ≡ at + (2 * min blockSize (length bytes - from) + 7)
+      → BlockAt i at₀ bytes r₀ (b + 1) (from + blockSize) at′ r′
+  block-next r′ at′ h q p a =
       let d = length-drop from bytes in
       let part = take blockSize (drop from bytes) in
-      let n : next ≡ at + length (line i b part) = q ∙ rw (line-length i b part) (omega (arith, length-take blockSize (drop from bytes), d)) in
-      sets-on r r′ at next (line i b part) (linesFrom i (b + 1) (drop (from + blockSize) bytes)) p n
-      ∙ rw (drop-drop blockSize from bytes) at (rw (lines-some i b (drop from bytes) (omega arith)) at e)
-
-  pub blocks-end : length bytes ≤ from → r ≡ z
-  blocks-end h = rw (lines-none i b (drop from bytes) (rw (length-drop from bytes) (omega arith))) at e
+      let n : at′ ≡ at + length (line i b part) = a ∙ rw (line-length i b part) (omega (arith, length-take blockSize (drop from bytes), d)) in
+      let k : length bytes - (from + blockSize) ≡ length bytes - from - blockSize = omega arith in
+      record {
+        place = omega (arith, v .place);
+        room = rw (k, q) (room-left (length bytes - from) at at′ (length r) (v .room) (omega arith) a);
+        long = q ∙ v .long;
+        same =
+            sets-on r r′ at at′ (line i b part) (linesFrom i (b + 1) (drop (from + blockSize) bytes)) p n
+            ∙ rw (drop-drop blockSize from bytes) at (rw (lines-some i b (drop from bytes) (omega arith)) at (v .same));
+      }
 
 -- the class is the part that was lent
-pub part-put : (i from n at : ℕ) (image r r′ : List ℕ) → r′ ≡ sets r at (classText i (take (from + n - from) (drop from image))) → r′ ≡ sets r at (classText i (take n (drop from image)))
+pub part-put : (i from n at : ℕ) (image r r′ : List ℕ) → r′ ≡ sets r at (classText i (take (from + n - from) (drop from image)))
+    → r′ ≡ sets r at (classText i (take n (drop from image)))
 part-put i from n at image r r′ e = let k : from + n - from ≡ n = omega arith in rw k at e
 
 -- ---- the length of the text
@@ -88,13 +111,17 @@ module _ (l : Layout) (k sum : ℕ) (w : Whole l) (e : sum + textLength (drop k 
   pub length-most : valid l ≡ true → l .count ≤ k → sum ≤ maxText
   length-most v h = omega (arith, length-end h, text-most l v)
 
-  pub length-more : (n c : ℕ) → n ≡ getD (l .lengths) k 0 → c ≡ classLength n → k < l .count → sum + c + textLength (drop (k + 1) (classes l)) ≡ textLength (classes l)
-  length-more n c p q h = let t = ap textLength (classes-next l k w h) in let u : classLength n ≡ classLength (getD (l .lengths) k 0) = ap classLength p in omega arith
+  pub length-more : (n c : ℕ) → n ≡ getD (l .lengths) k 0 → c ≡ classLength n → k < l .count
+      → sum + c + textLength (drop (k + 1) (classes l)) ≡ textLength (classes l)
+  length-more n c p q h =
+      let t = ap textLength (classes-next l k w h) in
+      let u : classLength n ≡ classLength (getD (l .lengths) k 0) = ap classLength p in
+      omega arith
 
 -- ---- the classes of an image
 
--- what holds at the head of the loop: at class k, whose bytes begin at `from` of the image and whose lines go to `at` of the buffer
-pub record At (l : Layout) (image r₀ : List ℕ) (k from at : ℕ) (r : List ℕ) : Type 0 where
+-- the same at class k, whose bytes begin at `from` of the image and whose lines go to `at` of the buffer
+pub record ClassAt (l : Layout) (image r₀ : List ℕ) (k from at : ℕ) (r : List ℕ) : Type 0 where
   pub whole : Whole l
   pub sized : Sized (drop k (classes l))
   pub start : from ≤ length image
@@ -104,9 +131,10 @@ pub record At (l : Layout) (image r₀ : List ℕ) (k from at : ℕ) (r : List �
   pub long : length r ≡ length r₀
   pub same : sets r at (classTexts (drop k (classes l)) (drop from image)) ≡ sets r₀ 0 (textOf l image)
 
-pub at-start : (l : Layout) (image r : List ℕ) → length (l .ids) ≡ maxClasses → length (l .lengths) ≡ maxClasses → fits l (length image) ≡ true → textLength (classes l) ≤ length r → At l image r 0 0 0 r
+pub class-start : (l : Layout) (image r : List ℕ) → length (l .ids) ≡ maxClasses → length (l .lengths) ≡ maxClasses
+    → fits l (length image) ≡ true → textLength (classes l) ≤ length r → ClassAt l image r 0 0 0 r
 unfolding textOf
-at-start l image r hi hn f h =
+class-start l image r hi hn f h =
     let p = fits-parts l (length image) f in
     let v = valid-parts l (p .0) in
     record {
@@ -120,9 +148,9 @@ at-start l image r hi hn f h =
       same = refl;
     }
 
-module _ (l : Layout) (image r₀ : List ℕ) (k from at : ℕ) (r : List ℕ) (v : At l image r₀ k from at r) where
-  pub at-end : l .count ≤ k → r ≡ sets r₀ 0 (textOf l image)
-  at-end h = rw (classes-end l k (v .whole) h) at (v .same)
+module _ (l : Layout) (image r₀ : List ℕ) (k from at : ℕ) (r : List ℕ) (v : ClassAt l image r₀ k from at r) where
+  pub class-end : l .count ≤ k → r ≡ sets r₀ 0 (textOf l image)
+  class-end h = rw (classes-end l k (v .whole) h) at (v .same)
 
   module _ (h : k < l .count) (n : ℕ) (p : n ≡ getD (l .lengths) k 0) where
     next : drop k (classes l) ≡ record { id = getD (l .ids) k 0; len = getD (l .lengths) k 0 } ∷ drop (k + 1) (classes l)
@@ -137,8 +165,9 @@ module _ (l : Layout) (image r₀ : List ℕ) (k from at : ℕ) (r : List ℕ) (
     pub part-room : at + classLength n ≤ length r
     part-room = let g = rw (next, ← p) at (v .room) in omega arith
 
-    pub at-next : (r′ : List ℕ) (at′ : ℕ) → length r′ ≡ length r → r′ ≡ sets r at (classText (getD (l .ids) k 0) (take n (drop from image))) → at′ ≡ at + classLength n → At l image r₀ (k + 1) (from + n) at′ r′
-    at-next r′ at′ q e a =
+    pub class-next : (r′ : List ℕ) (at′ : ℕ) → length r′ ≡ length r → r′ ≡ sets r at (classText (getD (l .ids) k 0) (take n (drop from image)))
+        → at′ ≡ at + classLength n → ClassAt l image r₀ (k + 1) (from + n) at′ r′
+    class-next r′ at′ q e a =
         let part = take n (drop from image) in
         let m : length part ≡ n = length-take-le n (drop from image) (rw (length-drop from image) (omega (arith, part-inside))) in
         let t : at′ ≡ at + length (classText (getD (l .ids) k 0) part) = a ∙ rw (class-length (getD (l .ids) k 0) part, m) in
@@ -150,5 +179,7 @@ module _ (l : Layout) (image r₀ : List ℕ) (k from at : ℕ) (r : List ℕ) (
           place = omega (arith, part-room);
           room = (let g = rw (next, ← p) at (v .room) in omega arith);
           long = q ∙ v .long;
-          same = sets-on r r′ at at′ (classText (getD (l .ids) k 0) part) (classTexts (drop (k + 1) (classes l)) (drop (from + n) image)) e t ∙ rw (← drop-drop n from image) (rw (next, ← p) at (v .same));
+          same =
+              sets-on r r′ at at′ (classText (getD (l .ids) k 0) part) (classTexts (drop (k + 1) (classes l)) (drop (from + n) image)) e t
+              ∙ rw (← drop-drop n from image) (rw (next, ← p) at (v .same));
         }

@@ -18,7 +18,7 @@ use Rattle.imagefile.specs.declared.answer.FileWritten.{FileWritten}
 
 -- ---- judging
 
--- a guess holds of a text whose own text it is
+-- a guess holds of a text: its layout and its bytes fit each other, and theirs is the text
 unfoldable pub holds : Content → List ℕ → Bool
 holds g x = all (fits (g .layout) (length (g .bytes)) ∷ same (textOf (g .layout) (g .bytes)) x ∷ [])
 

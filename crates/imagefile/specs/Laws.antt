@@ -14,7 +14,7 @@ use Rattle.dataflash.specs.Lookup.{blockExists}
 use Rattle.dataflash.specs.Image.{Bytes, blockBytes}
 use Rattle.dataflash.specs.declared.layout.Layout.{Layout}
 use Rattle.imagefile.specs.Text.{line, textOf, textLength}
-use Rattle.imagefile.specs.File.{accepted, judge, read, write}
+use Rattle.imagefile.specs.File.{accepted, judge, checkError, read, write}
 
 -- ---- layouts and images
 
@@ -46,11 +46,21 @@ pub record IsText (l : Layout) (image x : List ℕ) : Type 0 where
   pub clear : cleared l ≡ l
   pub text : textOf l image ≡ x
 
--- what is accepted is written out as the very same text; a text is accepted exactly if it is the text of a valid layout and its image
+-- what is accepted is written out as the very same text; a text is accepted as a layout and an image exactly if it is their text
 abbrev pub AcceptedText : Type 0
 AcceptedText = (x : List ℕ) (l : Layout) (image : List ℕ) → (judge x ≡ accepted l image) ↔ IsText l image x
 
--- and of one only
+-- so `check` answers 0 exactly for the texts of layouts and images that fit each other
+pub record TextOfSome (x : List ℕ) : Type 0 where
+  pub layout : Layout
+  pub image : List ℕ
+  pub fitting : Fitting layout image
+  pub text : textOf layout image ≡ x
+
+abbrev pub CheckAccepts : Type 0
+CheckAccepts = (x : List ℕ) → (checkError (judge x) ≡ 0) ↔ TextOfSome x
+
+-- and a text is that of one layout and image only
 abbrev pub OneOnly : Type 0
 OneOnly =
     (l l′ : Layout) (image image′ : List ℕ) → Fitting l image → Fitting l′ image′ → textOf l image ≡ textOf l′ image′

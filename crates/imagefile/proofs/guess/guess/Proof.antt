@@ -3,12 +3,12 @@
 use borrow.Author.Needs.{needs}
 use Prim.Native.Nat.{_-_}
 use Rattle.imagefile.specs.Text.{maxLines}
-use Rattle.imagefile.proofs.GuessLaws.{At, at-start, all-lines, no-line, line-inside, at-next}
+use Rattle.imagefile.proofs.GuessLaws.{LineAt, line-start, all-lines, no-line, line-inside, line-next}
 use Rattle.imagefile.proofs.guess.guess.Statement.{statement}
 use Rattle.imagefile.proofs.guess.guess.Tie as tie
 
 abbrev Inv-loop : tie.InvT-loop
-Inv-loop text buffer₀ layout₀ at₀ out₀ n₀ buffer layout at out n = At text buffer₀ layout at out n buffer
+Inv-loop text buffer₀ layout₀ at₀ out₀ n₀ buffer layout at out n = LineAt text buffer₀ layout at out n buffer
 
 abbrev μ-loop : tie.MeasureT-loop
 μ-loop text buffer₀ layout₀ at₀ out₀ n₀ buffer layout at out n = maxLines - n
@@ -20,7 +20,7 @@ guess-spec =
     Inv-loop
     μ-loop
     (λ c κs. search needs)
-    (λ c. search (needs, at-start))
+    (λ c. search (needs, line-start))
     (λ c κs. search needs)
     (λ c. search needs)
     (λ c. (search no-line, search needs))
@@ -29,6 +29,6 @@ guess-spec =
     (λ c. search needs)
     (λ c. search needs)
     (λ c. search needs)
-    (λ c. search (needs, at-next))
+    (λ c. search (needs, line-next))
     (λ c. search needs)
     (λ c. (search all-lines, search needs)))

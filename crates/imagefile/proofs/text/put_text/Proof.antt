@@ -2,12 +2,12 @@
 -- Assumes nothing.
 use borrow.Author.Needs.{needs}
 use Prim.Native.Nat.{_-_}
-use Rattle.imagefile.proofs.WriteLaws.{At, at-start, at-end, part-small, part-inside, part-room, at-next}
+use Rattle.imagefile.proofs.WriteLaws.{ClassAt, class-start, class-end, part-small, part-inside, part-room, class-next}
 use Rattle.imagefile.proofs.text.put_text.Statement.{statement}
 use Rattle.imagefile.proofs.text.put_text.Tie as tie
 
 abbrev Inv-loop : tie.InvT-loop
-Inv-loop image buffer₀ layout k₀ from₀ out₀ buffer k from out = At layout image buffer₀ k from out buffer
+Inv-loop image buffer₀ layout k₀ from₀ out₀ buffer k from out = ClassAt layout image buffer₀ k from out buffer
 
 abbrev μ-loop : tie.MeasureT-loop
 μ-loop image buffer₀ layout k₀ from₀ out₀ buffer k from out = layout .count - k
@@ -18,7 +18,7 @@ put-text-spec =
     (tie.spec
     Inv-loop
     μ-loop
-    (λ c. search (needs, at-start))
+    (λ c. search (needs, class-start))
     (λ c. search needs)
     (λ c. search needs)
     (λ c κs. search needs)
@@ -27,6 +27,6 @@ put-text-spec =
     (λ c. search needs)
     (λ c. search needs)
     (λ c. search needs)
-    (λ c. search (needs, at-next))
+    (λ c. search (needs, class-next))
     (λ c. search needs)
-    (λ c. search at-end))
+    (λ c. search class-end))

@@ -12,7 +12,7 @@ use Rattle.imagefile.proofs.text.text_length.Statement.{statement}
 use Rattle.imagefile.proofs.text.text_length.Tie as tie
 
 abbrev Inv-loop : tie.InvT-loop
-Inv-loop layout sum₀ k₀ sum k = Whole layout × (sum + textLength (drop k (classes layout)) ≡ textLength (classes layout)) × (sum ≤ 200000 * k) × (k ≤ layout .count)
+Inv-loop layout sum₀ k₀ sum k = Whole layout × (sum + textLength (drop k (classes layout)) ≡ textLength (classes layout)) × (sum ≤ 200000 * k)
 
 abbrev μ-loop : tie.MeasureT-loop
 μ-loop layout sum₀ k₀ sum k = layout .count - k

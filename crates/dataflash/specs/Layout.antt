@@ -4,7 +4,7 @@ use Prim.Native.Nat.{ℕ, _+_}
 use mathlib.Core.Bool.{Bool, true, false, cond}
 use mathlib.Core.List.{List, [], _∷_}
 use lib.Dec.{eqb, leb}
-use lib.ListN.{take}
+use lib.ListN.{take, replicate}
 use Rattle.dataflash.specs.Answer.{lengthOf, unknownClass}
 use Rattle.dataflash.specs.Choice.{all}
 use Rattle.dataflash.specs.declared.layout.Layout.{Layout}
@@ -64,6 +64,10 @@ size l = sizeOf (classes l)
 abbrev pub locate : ℕ → List Class → ℕ → Lookup
 locate at [] i = Lookup.Refused unknownClass
 locate at (c ∷ cs) i = cond (eqb (c .id) i) (Lookup.Found at (c .len)) (locate (at + c .len) cs i)
+
+-- a layout of no classes, all zero
+abbrev pub noClasses : Layout
+noClasses = record { count = 0; ids = replicate maxClasses 0; lengths = replicate maxClasses 0 }
 
 -- ---- which layouts are valid
 

@@ -1,15 +1,14 @@
 -- Every block of a layout has its line in the text: the line is a part of the text of its class, and that of the text of the image.
 -- Assumes nothing.
-use Prim.Native.Nat.{ℕ, zero, suc, _+_, _-_, _*_, _<_, min}
+use Prim.Native.Nat.{ℕ, zero, suc, _+_, _*_, _<_}
 use mathlib.Core.Path.{_≡_, refl, sym}
 use mathlib.Core.Bool.{true, false, true≢false}
 use mathlib.Core.List.{List, [], _∷_, _++_, append-assoc}
 use native.Mathlib.Omega.{arith}
 use native.Mathlib.Nat.{zero-add, add-zero}
-use native.Mathlib.Decide.{decLe}
 use lib.Dec.{eqb}
 use lib.ListN.{length, take, drop, length-take, length-drop}
-use lib.Seq.{take-all, take-nil, take-take, drop-drop}
+use lib.Seq.{drop-drop}
 use borrow.Author.Tests.{eqb-true}
 use Rattle.dataflash.specs.Layout.{Class, classes, locate}
 use Rattle.dataflash.specs.Lookup.{blockSize, findBlock}
@@ -21,7 +20,7 @@ use Rattle.dataflash.proofs.Laws.{exists-found}
 use Rattle.dataflash.proofs.LookupLaws.{locate-inside, placed}
 use Rattle.imagefile.specs.Text.{line, linesFrom, classText, classTexts, textOf}
 use Rattle.imagefile.specs.Laws.{PartOf, BlockLine}
-use Rattle.imagefile.proofs.TextLaws.{lines-some}
+use Rattle.imagefile.proofs.TextLaws.{take-part, lines-some}
 
 -- ---- parts
 
@@ -32,17 +31,6 @@ module _ {p x : List ℕ} (z : List ℕ) (h : PartOf p x) where
 
   part-right : PartOf p (z ++ x)
   part-right = record { before = z ++ h .before; after = h .after; whole = rw (h .whole) (simp append-assoc) }
-
--- some of the first n, behind m of them
-take-part : (k m n j : ℕ) (xs : List ℕ) → j ≡ min k (n - m) → take k (drop m (take n xs)) ≡ take j (drop m xs)
-take-part k zero n j xs e =
-    elim (decLe k n) [
-      | yes h ↦ let q : j ≡ k = omega arith in rw (q, take-take k n xs h)
-      | no h ↦ let q : j ≡ n = omega arith in rw (q, take-all k (take n xs) (omega (arith, length-take n xs)))
-    ]
-take-part k (suc m) zero j xs e = let q : j ≡ 0 = omega arith in rw (q, take-nil k)
-take-part k (suc m) (suc n) j [] e = rw (take-nil k, take-nil j)
-take-part k (suc m) (suc n) j (x ∷ xs) e = take-part k m n j xs (omega arith)
 
 -- ---- a block of a class, and a class of an image
 

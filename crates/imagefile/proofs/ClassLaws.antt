@@ -12,7 +12,7 @@ use lib.ListN.{length, take, drop, getD, set, length-drop, length-set, length-ta
 use lib.Seq.{sets, length-take-le, set-set, set-getD, getD-set-same, getD-drop}
 use borrow.Author.Tests.{lt-ltb, le-leb, ne-eqb, eq-eqb, leb-true}
 use Rattle.bytes.specs.Bytes.{indexOf}
-use Rattle.dataflash.specs.Layout.{maxClasses, maxClassLength, Class, paired, classes, sizeOf, inOrder, ordered}
+use Rattle.dataflash.specs.Layout.{maxClasses, maxClassLength, Class, paired, classes, sizeOf, inOrder, ordered, noClasses}
 use Rattle.dataflash.specs.Choice.{all}
 use Rattle.dataflash.specs.Lookup.{blockSize}
 use Rattle.dataflash.specs.Image.{Bytes, maxByte}
@@ -20,7 +20,7 @@ use Rattle.dataflash.specs.declared.layout.Layout.{Layout}
 use Rattle.dataflash.proofs.LayoutLaws.{valid-parts, fits-parts}
 use Rattle.dataflash.proofs.Picks.{all-first, all-rest}
 use Rattle.imagefile.specs.Text.{line, lines, blockCount, linesFrom, classText, classTexts, textOf, maxLines}
-use Rattle.imagefile.specs.Guess.{width, noClasses, isLast, longer, addLine, content, gather, guess}
+use Rattle.imagefile.specs.Guess.{width, isLast, longer, addLine, content, gather, guess}
 use Rattle.imagefile.specs.Laws.{Fitting, cleared}
 use Rattle.imagefile.proofs.TextLaws.{ordered-sized, lineCount, line-most}
 use Rattle.imagefile.proofs.LineLaws.{gather-line}

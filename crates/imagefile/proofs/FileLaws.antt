@@ -12,12 +12,12 @@ use borrow.Author.Tests.{lt-ltb, le-ltb}
 use Rattle.hextext.proofs.StoreLaws.{sets-start}
 use Rattle.dataflash.specs.Answer.{invalidLayout, shortBuffer}
 use Rattle.dataflash.specs.Choice.{same}
-use Rattle.dataflash.specs.Layout.{classes, valid, fits}
+use Rattle.dataflash.specs.Layout.{classes, valid, fits, noClasses}
 use Rattle.dataflash.specs.declared.layout.Layout.{Layout}
 use Rattle.dataflash.proofs.LayoutLaws.{fits-parts}
 use Rattle.dataflash.proofs.Picks.{same-refl, same-eq, on-test}
 use Rattle.imagefile.specs.Text.{textOf, textLength}
-use Rattle.imagefile.specs.Guess.{noClasses, content, guess}
+use Rattle.imagefile.specs.Guess.{content, guess}
 use Rattle.imagefile.specs.File.{holds, accepted, refused, judge, checkError, outcome, notRead, read, notWritten, write}
 use Rattle.imagefile.specs.declared.answer.FileRead.{FileRead}
 use Rattle.imagefile.proofs.TextLaws.{text-length}

@@ -15,12 +15,12 @@ use Rattle.bytes.specs.Bytes.{indexOf, slice}
 use Rattle.hextext.specs.Hex.{pair, unhex}
 use Rattle.hextext.proofs.StoreLaws.{sets-front}
 use Rattle.hextext.proofs.HexLaws.{unhex-length}
-use Rattle.dataflash.specs.Layout.{maxClasses}
+use Rattle.dataflash.specs.Layout.{maxClasses, noClasses}
 use Rattle.dataflash.specs.Lookup.{blockSize}
 use Rattle.dataflash.specs.declared.layout.Layout.{Layout}
 use Rattle.dataflash.proofs.Picks.{all-first}
 use Rattle.imagefile.specs.Text.{lineFeed, maxLines}
-use Rattle.imagefile.specs.Guess.{dataBytes, width, classByte, noClasses, isLast, longer, another, addLine, content, gather, guess}
+use Rattle.imagefile.specs.Guess.{dataBytes, width, classByte, isLast, longer, another, addLine, content, gather, guess}
 
 -- ---- one line
 

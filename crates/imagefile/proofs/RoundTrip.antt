@@ -12,13 +12,13 @@ use borrow.Author.Tests.{ltb-false}
 use Rattle.hextext.proofs.StoreLaws.{sets-start}
 use Rattle.hextext.proofs.HexLaws.{unhex-bytes, value-small}
 use Rattle.dataflash.specs.Answer.{shortBuffer}
-use Rattle.dataflash.specs.Layout.{maxClasses, paired, classes, valid, fits}
+use Rattle.dataflash.specs.Layout.{maxClasses, paired, classes, valid, fits, noClasses}
 use Rattle.dataflash.specs.Image.{Bytes, maxByte}
 use Rattle.dataflash.specs.declared.layout.Layout.{Layout}
 use Rattle.dataflash.proofs.LayoutLaws.{valid-parts, fits-parts}
 use Rattle.dataflash.proofs.Picks.{same-refl, same-eq, all-first, all-rest, on-test, on-cond}
 use Rattle.imagefile.specs.Text.{textOf, maxLines}
-use Rattle.imagefile.specs.Guess.{width, classByte, lineBytes, nextLine, noClasses, isLast, longer, another, addLine, Content, content, gather, guess}
+use Rattle.imagefile.specs.Guess.{width, classByte, lineBytes, nextLine, isLast, longer, another, addLine, Content, content, gather, guess}
 use Rattle.imagefile.specs.File.{holds, Judged, accepted, refused, judge, checkError, readJudged, read, write}
 use Rattle.imagefile.specs.Laws.{Fitting, inUse, cleared, WrittenRead, IsText, AcceptedText, TextOfSome, CheckAccepts, OneOnly, WriteThenRead, ReadThenWrite}
 use Rattle.imagefile.proofs.ClassLaws.{guess-text}

@@ -1,12 +1,13 @@
 -- Laws of the text of an image: its lines, block by block and class by class, how many there are and how long they are.
 -- Assumes nothing.
-use Prim.Native.Nat.{ℕ, zero, suc, _+_, _*_, _≤_}
+use Prim.Native.Nat.{ℕ, zero, suc, _+_, _-_, _*_, _≤_, min}
 use mathlib.Core.Path.{_≡_, refl}
 use mathlib.Core.Bool.{true}
 use mathlib.Core.List.{List, [], _∷_, _++_, append-assoc}
 use native.Mathlib.Omega.{arith}
+use native.Mathlib.Decide.{decLe}
 use lib.ListN.{length, take, drop, length-append, length-take, length-drop}
-use lib.Seq.{length-take-le}
+use lib.Seq.{length-take-le, take-all, take-nil, take-take}
 use borrow.Author.Tests.{leb-true}
 use Rattle.hextext.specs.Hex.{hex}
 use Rattle.hextext.proofs.HexLaws.{hex-append}
@@ -20,6 +21,19 @@ use Rattle.dataflash.proofs.Laws.{checksum-loaded}
 use Rattle.dataflash.proofs.LayoutLaws.{valid-parts, fits-parts}
 use Rattle.imagefile.specs.Text.{lineFeed, line, lines, blockCount, linesFrom, classText, classTexts, textOf, classLength, textLength, maxLines, maxText}
 use Rattle.imagefile.specs.Laws.{TextLength}
+
+-- ---- parts of bytes
+
+-- some of the first n, behind m of them
+pub take-part : (k m n j : ℕ) (xs : List ℕ) → j ≡ min k (n - m) → take k (drop m (take n xs)) ≡ take j (drop m xs)
+take-part k zero n j xs e =
+    elim (decLe k n) [
+      | yes h ↦ let q : j ≡ k = omega arith in rw (q, take-take k n xs h)
+      | no h ↦ let q : j ≡ n = omega arith in rw (q, take-all k (take n xs) (omega (arith, length-take n xs)))
+    ]
+take-part k (suc m) zero j xs e = let q : j ≡ 0 = omega arith in rw (q, take-nil k)
+take-part k (suc m) (suc n) j [] e = rw (take-nil k, take-nil j)
+take-part k (suc m) (suc n) j (x ∷ xs) e = take-part k m n j xs (omega arith)
 
 -- ---- one line
 

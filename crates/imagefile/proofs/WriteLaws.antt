@@ -7,7 +7,7 @@ use mathlib.Core.List.{List, [], _∷_, _++_}
 use native.Mathlib.Omega.{arith}
 use native.Mathlib.Decide.{decLe}
 use lib.ListN.{length, take, drop, getD, length-take, length-drop}
-use lib.Seq.{sets, length-take-le, drop-drop, take-all, take-length}
+use lib.Seq.{sets, length-take-le, drop-drop, take-length}
 use Rattle.hextext.specs.Hex.{hex}
 use Rattle.hextext.proofs.StoreLaws.{sets-on}
 use Rattle.hextext.proofs.Laws.{hex-length}
@@ -17,7 +17,7 @@ use Rattle.dataflash.specs.Checksum.{checksum}
 use Rattle.dataflash.specs.declared.layout.Layout.{Layout}
 use Rattle.dataflash.proofs.LayoutLaws.{Whole, classes-next, classes-end, valid-parts, fits-parts}
 use Rattle.imagefile.specs.Text.{lineFeed, line, linesFrom, classText, classTexts, textOf, classLength, textLength, maxText}
-use Rattle.imagefile.proofs.TextLaws.{line-parts, line-length, lines-none, lines-some, class-length, Sized, ordered-sized, text-most}
+use Rattle.imagefile.proofs.TextLaws.{take-part, line-parts, line-length, lines-none, lines-some, class-length, Sized, ordered-sized, text-most}
 
 -- ---- one line
 
@@ -44,15 +44,7 @@ module _ (at : ℕ) (r r₁ r₂ : List ℕ) where
 pub block-put : (i b from n at : ℕ) (bytes r r′ : List ℕ) → n ≡ min blockSize (length bytes - from)
     → r′ ≡ sets r at (line i b (take (from + n - from) (drop from bytes))) → r′ ≡ sets r at (line i b (take blockSize (drop from bytes)))
 block-put i b from n at bytes r r′ p e =
-    let k : from + n - from ≡ min blockSize (length (drop from bytes)) = rw (length-drop from bytes) (omega arith) in
-    rw (← take-min blockSize (drop from bytes), ← k) e
-  where
-    take-min : (k : ℕ) (l : List ℕ) → take (min k (length l)) l ≡ take k l
-    take-min k l =
-        elim (decLe k (length l)) [
-          | yes h ↦ (let e : min k (length l) ≡ k = omega arith in rw e)
-          | no h ↦ (let e : min k (length l) ≡ length l = omega arith in rw (e, take-length l, take-all k l (omega arith)))
-        ]
+    rw (rw take-length at (take-part blockSize from (length bytes) (from + n - from) bytes (omega arith))) e
 
 -- what holds at the head of the loop: at block b, whose bytes begin at `from` and whose line goes to `at` of the buffer
 pub record BlockAt (i at₀ : ℕ) (bytes r₀ : List ℕ) (b from at : ℕ) (r : List ℕ) : Type 0 where

@@ -9,10 +9,10 @@ use lib.ListN.{length}
 use lib.Seq.{sets}
 use Rattle.dataflash.specs.Answer.{invalidLayout, shortBuffer}
 use Rattle.dataflash.specs.Choice.{all, same}
-use Rattle.dataflash.specs.Layout.{fits}
+use Rattle.dataflash.specs.Layout.{fits, noClasses}
 use Rattle.dataflash.specs.declared.layout.Layout.{Layout}
 use Rattle.imagefile.specs.Text.{textOf}
-use Rattle.imagefile.specs.Guess.{noClasses, Content, guess}
+use Rattle.imagefile.specs.Guess.{Content, guess}
 use Rattle.imagefile.specs.declared.answer.FileRead.{FileRead}
 use Rattle.imagefile.specs.declared.answer.FileWritten.{FileWritten}
 

@@ -5,11 +5,11 @@ use Prim.Native.Nat.{ℕ, zero, suc, _+_, _-_, _*_, _/_, _%_}
 use mathlib.Core.Bool.{Bool, cond}
 use mathlib.Core.List.{List, [], _∷_, _++_}
 use lib.Dec.{eqb, leb, ltb}
-use lib.ListN.{length, take, drop, getD, set, replicate}
+use lib.ListN.{length, take, drop, getD, set}
 use Rattle.bytes.specs.Bytes.{indexOf}
 use Rattle.hextext.specs.Hex.{pair, unhex}
 use Rattle.dataflash.specs.Choice.{all}
-use Rattle.dataflash.specs.Layout.{maxClasses}
+use Rattle.dataflash.specs.Layout.{maxClasses, noClasses}
 use Rattle.dataflash.specs.Lookup.{blockSize}
 use Rattle.dataflash.specs.declared.layout.Layout.{Layout}
 use Rattle.imagefile.specs.Text.{lineFeed, maxLines}
@@ -34,9 +34,6 @@ abbrev pub nextLine : List ℕ → List ℕ
 nextLine x = drop (indexOf lineFeed x + 1) x
 
 -- ---- the layout, line by line
-
-abbrev pub noClasses : Layout
-noClasses = record { count = 0; ids = replicate maxClasses 0; lengths = replicate maxClasses 0 }
 
 abbrev pub isLast : Layout → ℕ → Bool
 isLast l i = all (leb 1 (l .count) ∷ eqb (getD (l .ids) (l .count - 1) 0) i ∷ [])

@@ -13,10 +13,10 @@ ghost use lib.ListN.{length, take, drop};
 ghost use lib.Seq.{sets};
 ghost use Rattle.bytes.specs.Bytes.{indexOf};
 ghost use Rattle.hextext.specs.Hex.{unhex};
-ghost use Rattle.dataflash.specs.Layout.{maxClasses};
+ghost use Rattle.dataflash.specs.Layout.{maxClasses, noClasses};
 ghost use Rattle.dataflash.specs.Lookup.{blockSize};
 ghost use Rattle.imagefile.specs.Text.{lineFeed, maxLines};
-ghost use Rattle.imagefile.specs.Guess.{dataBytes, width, classByte, noClasses, isLast, longer, another, addLine, content, guess};
+ghost use Rattle.imagefile.specs.Guess.{dataBytes, width, classByte, isLast, longer, another, addLine, content, guess};
 
 // A line: how many data bytes it has, 0 where there is no line, and where the next one begins.
 pub(crate) struct Line {

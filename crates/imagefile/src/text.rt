@@ -81,7 +81,7 @@ fn put_class(class: u8, bytes: &[u8], buffer: &mut [u8], at: usize)
     }
 }
 
-// How long the text of a class is that has so many bytes.
+// How long the text of a class is that has so many bytes; small enough that 32 of them can be summed.
 fn class_length(n: usize) -> usize
     requires { ⌜ n ≤ 65535 ⌝ }
     ensures { λ r. ⌜ (r ≡ classLength n) × (r ≤ 200000) ⌝ }

@@ -16,7 +16,7 @@ fn digit(n: u8) -> u8
 }
 
 // The number of a digit; of any other byte some number below 16.
-fn value(c: u8) -> u8
+pub fn value(c: u8) -> u8
     ensures { λ r. ⌜ (r ≡ value c) × (r < 16) ⌝ }
 {
     if c < 65 { c % 16 } else { (c % 16 + 9) % 16 }

@@ -1,24 +1,25 @@
 -- Laws of the calls: a text judged by the text that is written again, and the answers.
 -- Assumes nothing.
 use Prim.Native.Nat.{ℕ, _+_, _-_, _≤_, _<_}
-use mathlib.Core.Path.{_≡_, refl, sym, _∙_}
+use mathlib.Core.Path.{_≡_, refl, sym, ap, _∙_}
 use mathlib.Core.Bool.{Bool, true, false, cond, true≢false}
 use mathlib.Core.List.{List, _++_}
 use native.Mathlib.Nat.{sub-zero, zero-add}
 use native.Mathlib.Omega.{arith}
 use lib.ListN.{length, take, drop}
 use lib.Seq.{sets, sets-eq, take-length, length-take-le}
-use borrow.Author.Tests.{lt-ltb, le-ltb}
+use borrow.Author.Tests.{lt-ltb, le-ltb, ltb-false}
+use lib.Dec.{ltb}
 use Rattle.hextext.proofs.StoreLaws.{sets-start}
 use Rattle.dataflash.specs.Answer.{invalidLayout, shortBuffer}
 use Rattle.dataflash.specs.Choice.{same}
 use Rattle.dataflash.specs.Layout.{classes, valid, fits, noClasses}
 use Rattle.dataflash.specs.declared.layout.Layout.{Layout}
 use Rattle.dataflash.proofs.LayoutLaws.{fits-parts}
-use Rattle.dataflash.proofs.Picks.{same-refl, same-eq, on-test}
+use Rattle.dataflash.proofs.Picks.{same-refl, same-eq, on-test, on-cond}
 use Rattle.imagefile.specs.Text.{textOf, textLength}
 use Rattle.imagefile.specs.Guess.{content, guess}
-use Rattle.imagefile.specs.File.{holds, accepted, refused, judge, checkError, outcome, notRead, read, notWritten, write}
+use Rattle.imagefile.specs.File.{holds, Judged, accepted, refused, judge, checkError, Outcome, outcome, notRead, readJudged, read, notWritten, write}
 use Rattle.imagefile.specs.declared.answer.FileRead.{FileRead}
 use Rattle.imagefile.proofs.TextLaws.{text-length}
 
@@ -118,3 +119,13 @@ module _ (l : Layout) (image r : List ℕ) (t : Bool) (p : t ≡ fits l (length 
     pub write-good : (r′ : List ℕ) → n ≤ length r → r′ ≡ sets r 0 (textOf l image) → outcome (record { error = 0; length = n }) r′ ≡ write l image r
     unfolding write
     write-good r′ h s = rw (← p, q, ← call-length l image t p q n e, le-ltb (length r) n h, s)
+
+-- an image that was read is within the buffer
+pub read-within : (x buffer buffer′ : List ℕ) (r : FileRead) → outcome r buffer′ ≡ read x buffer → r .length ≤ length buffer
+unfolding read
+read-within x buffer buffer′ r p = rw (← ap (λ (o : Outcome FileRead). o .answer .length) p) at (by (judge x))
+  where
+    by : (j : Judged) → readJudged j buffer .answer .length ≤ length buffer
+    by (accepted l image) =
+        on-cond (λ (o : Outcome FileRead). o .answer .length ≤ length buffer) (ltb (length buffer) (length image)) _ _ (λ t. omega arith) (λ t. ltb-false _ _ t)
+    by refused = omega arith

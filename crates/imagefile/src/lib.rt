@@ -6,4 +6,4 @@
 pub mod answer;
 pub mod file;
 mod guess;
-mod text;
+pub mod text;

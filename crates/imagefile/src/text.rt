@@ -18,13 +18,13 @@ ghost use Rattle.dataflash.specs.Layout.{maxClassLength, classes, valid, fits};
 ghost use Rattle.dataflash.specs.Lookup.{blockSize};
 ghost use Rattle.imagefile.specs.Text.{lineFeed, line, classText, textOf, classLength, textLength, maxText};
 
-pub(crate) const LINE_FEED: u8 = 10;
+pub const LINE_FEED: u8 = 10;
 
 // No text has more lines: 4096 bytes make 128 full blocks, and each of 32 classes may have one that is not full.
 pub(crate) const MAX_LINES: usize = 160;
 
 // None is longer: two digits for each of 4096 bytes, and seven characters more for each of 160 lines.
-pub(crate) const MAX_TEXT: usize = 9312;
+pub const MAX_TEXT: usize = 9312;
 
 // Class and block number.
 fn put_head(class: u8, block: u8, buffer: &mut [u8], at: usize)

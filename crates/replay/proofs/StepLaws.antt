@@ -1,0 +1,74 @@
+-- Turns of the second pass as a host's steps.
+-- Assumes nothing.
+use Prim.Native.Nat.{ℕ, _+_, _-_, _≤_}
+use mathlib.Core.Path.{_≡_, refl, sym, _∙_}
+use mathlib.Core.List.{List, [], _∷_, _++_}
+use lib.ListN.{length, drop}
+use Rattle.dataflash.specs.declared.layout.Layout.{Layout}
+use Rattle.gaugerules.specs.State.{bootSealed, powerOn}
+use Rattle.gaugerules.specs.Script.{Device, device}
+use Rattle.gaugerules.specs.declared.state.Gauge.{Gauge}
+use Rattle.script.specs.Replay.{poweredOn}
+use Rattle.script.specs.Run.{left, run}
+use Rattle.script.specs.Host.{Step, arrives, runs, Host, host, step, steps}
+use Rattle.script.specs.declared.answer.Progress.{Progress}
+use Rattle.replay.specs.Held.{held, Longer, BySteps, Passed}
+use Rattle.replay.proofs.HeldLaws.{held-length, held-drop}
+
+-- ---- steps one after the other
+
+module _ (l : Layout) where
+  steps-append : (h : Host) (ss ts : List Step) → steps l h (ss ++ ts) ≡ steps l (steps l h ss) ts
+  steps-append h [] ts = refl
+  steps-append h (s ∷ ss) ts = steps-append (step l h s) ss ts
+
+  -- what was printed before makes no difference
+  steps-device : (d : Device) (x p q : List ℕ) (ss : List Step) → steps l (host d x p) ss .device ≡ steps l (host d x q) ss .device
+  steps-device d x p q [] = refl
+  steps-device d x p q (arrives y ∷ ss) = steps-device d (x ++ y) p q ss
+  steps-device d x p q (runs b ∷ ss) = steps-device _ _ _ _ ss
+
+  steps-held : (d : Device) (x p q : List ℕ) (ss : List Step) → steps l (host d x p) ss .held ≡ steps l (host d x q) ss .held
+  steps-held d x p q [] = refl
+  steps-held d x p q (arrives y ∷ ss) = steps-held d (x ++ y) p q ss
+  steps-held d x p q (runs b ∷ ss) = steps-held _ _ _ _ ss
+
+  on : (d d′ : Device) (x x′ : List ℕ) (ss : List Step) → steps l (host d x []) ss .device ≡ d′ → steps l (host d x []) ss .held ≡ x′
+      → (ts : List Step) → (steps l (host d x []) (ss ++ ts) .device ≡ steps l (host d′ x′ []) ts .device) × (steps l (host d x []) (ss ++ ts) .held ≡ steps l (host d′ x′ []) ts .held)
+  on d d′ x x′ ss p q ts =
+      let h = steps l (host d x []) ss in
+      rw (steps-append (host d x []) ss ts, ← p, ← q)
+      (steps-device (h .device) (h .held) (h .printed) [] ts, steps-held (h .device) (h .held) (h .printed) [] ts)
+
+  pub steps-on : (d d′ d″ : Device) (x x′ x″ : List ℕ) → BySteps l d x d′ x′ → BySteps l d′ x′ d″ x″ → BySteps l d x d″ x″
+  steps-on d d′ d″ x x′ x″ a b =
+      let c = on d d′ x x′ (a .taken) (a .device) (a .text) (b .taken) in
+      record { taken = a .taken ++ b .taken; device = c .0 ∙ b .device; text = c .1 ∙ b .text }
+
+-- ---- one turn: what is held is run, s being what that left
+
+module _ (l : Layout) (g : Gauge) (image image′ b out out′ : List ℕ) (from to : ℕ) (s : Progress) (p : left s image′ out′ ≡ run l image g (held b from to) out) where
+  pub turn-ran : from + s .next ≤ to → BySteps l (device g image) (held b from to) (device (s .gauge) image′) (held b (from + s .next) to)
+  unfolding left
+  turn-ran h = record { taken = runs out ∷ []; device = rw (← p); text = rw (← p) (held-drop b from to (s .next) h) }
+
+  -- and then more is read
+  pub turn-read : (b′ : List ℕ) (to′ : ℕ) → s .next ≡ 0 → Longer (held b from to) (held b′ 0 to′)
+      → BySteps l (device g image) (held b from to) (device (s .gauge) image′) (held b′ 0 to′)
+  unfolding left
+  turn-read b′ to′ e m = record { taken = runs out ∷ arrives (m .more) ∷ []; device = rw (← p); text = rw (← p, e) (sym (m .whole)) }
+
+-- ---- all turns
+
+module _ (l : Layout) (image b : List ℕ) (g : Gauge) where
+  pub pass-start : g ≡ powerOn bootSealed → BySteps l (poweredOn image) [] (device g image) (held b 0 0)
+  pass-start p = record { taken = []; device = rw p; text = refl }
+
+  pub pass-end : (image₀ : List ℕ) (from to : ℕ) → BySteps l (poweredOn image₀) [] (device g image) (held b from to) → from ≤ to → to ≤ length b
+      → Passed l (poweredOn image₀) image (to - from)
+  pass-end image₀ from to a h k = record { last = device g image; text = held b from to; steps = a; image = refl; size = held-length b from to h k }
+
+  -- where the last turn has just been taken; b₁ is the buffer before it
+  pub pass-last : (image₀ x b₁ : List ℕ) (d : Device) (from to : ℕ) → BySteps l (poweredOn image₀) [] d x → BySteps l d x (device g image) (held b from to)
+      → from ≤ to → to ≤ length b₁ → length b ≡ length b₁ → Passed l (poweredOn image₀) image (to - from)
+  pass-last image₀ x b₁ d from to a t h k e = pass-end image₀ from to (steps-on l (poweredOn image₀) d (device g image) [] x (held b from to) a t) h (rw e k)

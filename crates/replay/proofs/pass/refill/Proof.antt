@@ -1,0 +1,16 @@
+-- `replay::pass::refill` meets its contract. What is read stands behind what is held.
+-- Assumes nothing.
+use borrow.Author.Needs.{needs}
+use Rattle.replay.proofs.HeldLaws.{held-longer}
+use Rattle.replay.proofs.pass.refill.Statement.{statement}
+use Rattle.replay.proofs.pass.refill.Tie as tie
+
+pub refill-spec : {M : Type 1} → statement M
+refill-spec =
+    tie.close
+    (tie.spec
+    (λ c κs. search needs)
+    (λ c κs. search needs)
+    (λ c. search needs)
+    (λ c. search needs)
+    (λ c. (search needs, search (needs, held-longer))))

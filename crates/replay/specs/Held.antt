@@ -1,0 +1,33 @@
+-- What the second pass does, as a host's steps (crate `script`, specs/Host.antt): by the claim `HostPrints` there, a host that has run all of a
+-- script has printed what document 01 asks for. No contract can say what is read from a file or printed.
+-- Assumes nothing.
+use Prim.Native.Nat.{ℕ, _-_}
+use mathlib.Core.Path.{_≡_}
+use mathlib.Core.List.{List, [], _++_}
+use lib.ListN.{length, take, drop}
+use Rattle.dataflash.specs.declared.layout.Layout.{Layout}
+use Rattle.gaugerules.specs.Script.{Device}
+use Rattle.script.specs.Host.{Step, host, steps}
+
+-- the text that is held: the buffer's bytes from one index up to another
+abbrev pub held : List ℕ → ℕ → ℕ → List ℕ
+held buffer from to = take (to - from) (drop from buffer)
+
+-- x is y with more behind it
+pub record Longer (y x : List ℕ) : Type 0 where
+  pub more : List ℕ
+  pub whole : x ≡ y ++ more
+
+-- some steps lead from a device and a text held to another device and text
+pub record BySteps (l : Layout) (d : Device) (x : List ℕ) (d′ : Device) (x′ : List ℕ) : Type 0 where
+  pub taken : List Step
+  pub device : steps l (host d x []) taken .device ≡ d′
+  pub text : steps l (host d x []) taken .held ≡ x′
+
+-- the same where the last text's length and image are told
+pub record Passed (l : Layout) (d : Device) (image′ : List ℕ) (left : ℕ) : Type 0 where
+  pub last : Device
+  pub text : List ℕ
+  pub steps : BySteps l d [] last text
+  pub image : last .image ≡ image′
+  pub size : length text ≡ left

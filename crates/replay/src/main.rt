@@ -1,0 +1,28 @@
+// Replays script.hex on a gauge with the image of image.hex, both in the current folder: powered on sealed, one line an answer. A file
+// that breaks its rules, is missing or cannot be read gives the single line 0A, and the reason goes to standard error.
+//
+// Both files are judged before anything is printed, so the script is read twice, each time in chunks: any length of it takes the same
+// memory. What is printed is proved of crate `script`, whose calls do all the work; here they are fed.
+mod image_file;
+mod input;
+mod output;
+mod pass;
+mod script_file;
+
+use dataflash::layout::MAX_IMAGE_LENGTH;
+
+fn main() {
+    let mut bytes = [0u8; MAX_IMAGE_LENGTH];
+    let found = image_file::load(&mut bytes);
+    let fd = script_file::open();
+    let good = script_file::judged(fd);
+    if found.error == 0 {
+        if good {
+            let n = found.length;
+            let layout = found.layout;
+            pass::replay(fd, layout, &mut bytes[0..n]);
+            return;
+        }
+    }
+    output::refuse();
+}

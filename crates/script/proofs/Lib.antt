@@ -1,0 +1,15 @@
+pub mod Picks
+pub mod StateLaws
+pub mod FrameLaws
+pub mod WholeLines
+pub mod JudgeLaws
+pub mod ScriptLaws
+pub mod ReplyLaws
+pub mod PutLaws
+pub mod DecodeLaws
+pub mod LoopLaws
+pub mod AnswerLaws
+pub mod RunLaws
+pub mod HostLaws
+pub mod SilenceLaws
+pub mod Laws

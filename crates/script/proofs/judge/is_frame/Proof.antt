@@ -1,0 +1,17 @@
+-- `script::judge::is_frame` meets its contract. By the state after the line.
+-- Assumes nothing.
+use borrow.Author.Needs.{needs}
+use Rattle.script.proofs.StateLaws.{line-counted, line-cut, line-broken}
+use Rattle.script.proofs.judge.is_frame.Statement.{statement}
+use Rattle.script.proofs.judge.is_frame.Tie as tie
+
+pub is-frame-spec : {M : Type 1} → statement M
+is-frame-spec =
+    tie.close
+    (tie.spec
+    (λ c κs. search needs)
+    (λ c κs. search needs)
+    (λ c κs. search needs)
+    (λ c. search line-counted)
+    (λ c. search line-cut)
+    (λ c. search line-broken))

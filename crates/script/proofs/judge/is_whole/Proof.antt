@@ -1,0 +1,16 @@
+-- `script::judge::is_whole` meets its contract. Test by test, as the definition.
+-- Assumes nothing.
+use Rattle.dataflash.proofs.Picks.{picks}
+use Rattle.script.specs.Judge.{isWhole}
+use Rattle.script.proofs.judge.is_whole.Statement.{statement}
+use Rattle.script.proofs.judge.is_whole.Tie as tie
+
+pub is-whole-spec : {M : Type 1} → statement M
+unfolding isWhole
+is-whole-spec =
+    tie.close
+    (tie.spec
+    (λ c. search picks depth 12)
+    (λ c. search picks depth 12)
+    (λ c. search picks depth 12)
+    (λ c. search picks depth 12))

@@ -1,0 +1,18 @@
+-- `script::judge::step` meets its contract. Test by test, as the definition.
+-- Assumes nothing.
+use borrow.Author.Needs.{needs}
+use Rattle.dataflash.proofs.Picks.{picks, calls}
+use Rattle.script.specs.Judge.{step}
+use Rattle.script.proofs.Picks.{flags}
+use Rattle.script.proofs.judge.step.Statement.{statement}
+use Rattle.script.proofs.judge.step.Tie as tie
+
+pub step-spec : {M : Type 1} → statement M
+unfolding step
+step-spec =
+    tie.close
+    (tie.spec
+    (λ c κs. search needs)
+    (λ c. search (picks, calls, flags) depth 12)
+    (λ c κs. search needs)
+    (λ c. search (picks, calls, flags) depth 12))

@@ -1,0 +1,36 @@
+//! 01, "Numbers of the refusals": those that a lookup, a file or a transaction can give.
+
+#[derive(Clone, Copy, Debug, PartialEq, Eq)]
+#[repr(u8)]
+pub enum Error {
+    /// "n is 0 or r + n above 128"
+    Span = 1,
+    /// "register takes no writes"
+    ReadOnly = 2,
+    /// "0x3E or 0x61 while sealed"
+    Sealed = 3,
+    /// "class not in layout"
+    NoClass = 4,
+    /// "block does not exist", or "0x3F without general access: byte not 1 to 3"
+    NoBlock = 5,
+    /// "0x40 to 0x60 with none loaded"
+    NotLoaded = 6,
+    /// "0x40 to 0x60, block A, sealed"
+    BlockA = 7,
+    /// "checksum differs"
+    Checksum = 8,
+    /// "0x61 byte not 0 or 1"
+    Control = 9,
+    /// "file or layout breaks its rules, or image length differs from it"
+    Invalid = 10,
+    /// "lent room shorter than the answer"
+    Buffer = 14,
+    /// "record not sound"
+    Record = 15,
+}
+
+impl Error {
+    pub fn number(self) -> u8 {
+        self as u8
+    }
+}

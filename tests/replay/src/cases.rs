@@ -1,0 +1,241 @@
+//! The table of all kinds of cases, and the case of each number.
+
+use crate::damage::{self, Damage};
+use crate::flash::{self, Flash};
+use crate::random::Random;
+use crate::{badscripts, images, scripts};
+
+/// What stands in the place of a file.
+pub enum Input {
+    Text(Vec<u8>),
+    Missing,
+    Folder,
+}
+
+impl Input {
+    pub fn text(&self) -> Option<&[u8]> {
+        match self {
+            Input::Text(text) => Some(text),
+            _ => None,
+        }
+    }
+}
+
+pub struct Case {
+    pub image: Input,
+    pub script: Input,
+}
+
+/// What the model must say of a kind: a check of the generator, and of the model.
+#[derive(Clone, Copy, PartialEq, Eq)]
+pub enum Expect {
+    Good,
+    Bad,
+    Either,
+}
+
+pub struct Kind {
+    pub name: &'static str,
+    /// So many of every `total_weight()` cases are of this kind.
+    pub weight: usize,
+    pub expect: Expect,
+    /// The case, from its random numbers and its number among those of the kind.
+    make: fn(&mut Random, usize) -> Case,
+}
+
+const fn kind(weight: usize, name: &'static str, expect: Expect, make: fn(&mut Random, usize) -> Case) -> Kind {
+    Kind { name, weight, expect, make }
+}
+
+use Expect::{Bad, Either, Good};
+
+pub const KINDS: &[Kind] = &[
+    // Good files
+    kind(1, "session", Good, |_, _| session()),
+    kind(2, "empty script", Good, |r, _| on_any(r, |_, _| Vec::new())),
+    kind(2, "one line", Good, |r, _| on_any(r, scripts::one_line)),
+    kind(10, "sealed", Good, |r, _| on_any(r, scripts::sealed)),
+    kind(8, "keys", Good, |r, _| on_any(r, scripts::keys)),
+    kind(14, "general access", Good, |r, _| on_openable(r, scripts::general)),
+    kind(6, "open, info blocks", Good, |r, _| on_openable(r, scripts::open_info)),
+    kind(6, "seal after loading", Good, |r, _| on_openable(r, scripts::seal_after_loading)),
+    kind(6, "new keys", Good, |r, _| on_openable(r, scripts::rekey)),
+    kind(6, "spans", Good, |r, _| on_any(r, scripts::spans)),
+    kind(14, "mixed", Good, |r, _| on_any(r, scripts::mixed)),
+    kind(2, "longest image", Good, |r, _| on(r, flash::longest_text, scripts::general)),
+    kind(2, "full image", Good, |r, _| on(r, flash::full, scripts::general)),
+    kind(1, "long script", Good, |r, _| on_any(r, scripts::long)),
+    kind(1, "many reads", Good, |r, _| on_openable(r, scripts::many_reads)),
+    kind(2, "round image length", Good, |r, _| on(r, flash::round_text, scripts::mixed)),
+    kind(2, "round script length", Good, |r, _| on_openable(r, scripts::ends_at_a_cut)),
+    kind(5, scripts::STRADDLING, Good, |r, i| on_openable(r, |r, f| scripts::straddling(r, f, i))),
+    // Image files spoilt by a character or a line
+    kind(2, "image: digit changed", Either, |r, _| spoilt_image(r, damage::digit_changed)),
+    kind(2, "image: no digit", Bad, |r, _| spoilt_image(r, damage::no_digit)),
+    kind(1, "image: NUL", Bad, |r, _| spoilt_image(r, damage::nul)),
+    kind(1, "image: high bit", Bad, |r, _| spoilt_image(r, damage::high_bit)),
+    kind(1, "image: digit removed", Bad, |r, _| spoilt_image(r, damage::digit_removed)),
+    kind(1, "image: digit added", Bad, |r, _| spoilt_image(r, damage::digit_added)),
+    kind(1, "image: lines joined", Either, |r, _| spoilt_image(r, damage::lines_joined)),
+    kind(1, "image: line broken", Either, |r, _| spoilt_image(r, damage::line_broken)),
+    kind(1, "image: lower case", Bad, |r, _| spoilt_image(r, damage::lower_case)),
+    kind(1, "image: carriage return", Bad, |r, _| spoilt_image(r, damage::carriage_returns)),
+    kind(1, "image: blank", Bad, |r, _| spoilt_image(r, damage::blank)),
+    kind(1, "image: no last line feed", Bad, |r, _| spoilt_image(r, damage::no_last_line_feed)),
+    kind(1, "image: empty line", Bad, |r, _| spoilt_image(r, damage::empty_line)),
+    kind(1, "image: byte order mark", Bad, |r, _| spoilt_image(r, damage::byte_order_mark)),
+    kind(2, "image: truncated", Either, |r, _| spoilt_image(r, damage::truncated)),
+    kind(1, "image: lines swapped", Either, |r, _| spoilt_image(r, damage::lines_swapped)),
+    kind(1, "image: line doubled", Bad, |r, _| spoilt_image(r, damage::line_doubled)),
+    kind(1, "image: line removed", Either, |r, _| spoilt_image(r, damage::line_removed)),
+    kind(1, "image: bad last line", Bad, |r, _| spoilt_image(r, damage::bad_last_line)),
+    // Image files that break one rule
+    kind(1, "image: empty", Bad, |r, _| bad_image(r, |_| Vec::new())),
+    kind(1, "image: only digits", Bad, |r, _| bad_image(r, damage::only_digits)),
+    kind(1, "image: only noise", Bad, |r, _| bad_image(r, damage::only_noise)),
+    kind(1, "image: far too long", Bad, |r, _| bad_image(r, images::far_too_long)),
+    kind(1, "image: no class 58", Bad, |r, _| bad_image(r, images::no_info_class)),
+    kind(1, "image: class 58 of 95", Bad, |r, _| bad_image(r, images::info_class_of_95)),
+    kind(1, "image: class 58 of 97", Bad, |r, _| bad_image(r, images::info_class_of_97)),
+    kind(1, "image: no class 112", Bad, |r, _| bad_image(r, images::no_key_class)),
+    kind(1, "image: class 112 of 27", Bad, |r, _| bad_image(r, images::key_class_of_27)),
+    kind(1, "image: class of 513", Bad, |r, _| bad_image(r, images::class_of_513)),
+    kind(1, "image: 33 classes", Bad, |r, _| bad_image(r, images::classes_33)),
+    kind(1, "image: 4097 bytes", Bad, |r, _| bad_image(r, images::bytes_4097)),
+    kind(1, "image: class order", Bad, |r, _| bad_image(r, images::class_order)),
+    kind(1, "image: wrong checksum", Bad, |r, _| bad_image(r, images::wrong_checksum)),
+    kind(1, "image: block numbers", Bad, |r, _| bad_image(r, images::block_numbers)),
+    kind(1, "image: first block number", Bad, |r, _| bad_image(r, images::first_block_number)),
+    kind(1, "image: short block inside", Bad, |r, _| bad_image(r, images::short_block_inside)),
+    kind(1, "image: long block", Bad, |r, _| bad_image(r, images::long_block)),
+    kind(1, "image: line without data", Bad, |r, _| bad_image(r, images::line_without_data)),
+    kind(1, "image: short line", Bad, |r, _| bad_image(r, images::short_line)),
+    // Scripts spoilt by a character or a line
+    kind(2, "script: digit changed", Either, |r, _| spoilt_script(r, damage::digit_changed)),
+    kind(1, "script: no digit", Bad, |r, _| spoilt_script(r, damage::no_digit)),
+    kind(1, "script: NUL", Bad, |r, _| spoilt_script(r, damage::nul)),
+    kind(1, "script: high bit", Bad, |r, _| spoilt_script(r, damage::high_bit)),
+    kind(1, "script: digit removed", Bad, |r, _| spoilt_script(r, damage::digit_removed)),
+    kind(1, "script: digit added", Bad, |r, _| spoilt_script(r, damage::digit_added)),
+    kind(1, "script: lines joined", Either, |r, _| spoilt_script(r, damage::lines_joined)),
+    kind(1, "script: line broken", Either, |r, _| spoilt_script(r, damage::line_broken)),
+    kind(1, "script: lower case", Bad, |r, _| spoilt_script(r, damage::lower_case)),
+    kind(1, "script: carriage return", Bad, |r, _| spoilt_script(r, damage::carriage_returns)),
+    kind(1, "script: blank", Bad, |r, _| spoilt_script(r, damage::blank)),
+    kind(1, "script: no last line feed", Bad, |r, _| spoilt_script(r, damage::no_last_line_feed)),
+    kind(1, "script: empty line", Bad, |r, _| spoilt_script(r, damage::empty_line)),
+    kind(1, "script: byte order mark", Bad, |r, _| spoilt_script(r, damage::byte_order_mark)),
+    kind(1, "script: truncated", Either, |r, _| spoilt_script(r, damage::truncated)),
+    kind(1, "script: lines swapped", Good, |r, _| spoilt_script(r, damage::lines_swapped)),
+    kind(1, "script: line doubled", Good, |r, _| spoilt_script(r, damage::line_doubled)),
+    kind(1, "script: line removed", Good, |r, _| spoilt_script(r, damage::line_removed)),
+    kind(1, "script: bad last line", Bad, |r, _| spoilt_script(r, damage::bad_last_line)),
+    // Scripts with one frame that is none
+    kind(2, "script: unknown type", Bad, |r, _| on_any(r, badscripts::unknown_type)),
+    kind(2, "script: read length", Bad, |r, _| on_any(r, badscripts::read_length)),
+    kind(1, "script: lone write", Bad, |r, _| on_any(r, badscripts::lone_write)),
+    kind(2, "script: write too long", Bad, |r, _| on_any(r, badscripts::write_too_long)),
+    kind(1, "script: odd digits", Bad, |r, _| on_any(r, badscripts::odd_digits)),
+    kind(1, "script: late bad line", Bad, |r, _| on_any(r, badscripts::late_bad_line)),
+    kind(1, "script: bad beside a cut", Bad, |r, i| on_openable(r, |r, f| badscripts::bad_beside_a_cut(r, f, i))),
+    kind(1, "script: only digits", Bad, |r, _| on_any(r, |r, _| damage::only_digits(r))),
+    kind(1, "script: only noise", Bad, |r, _| on_any(r, |r, _| damage::only_noise(r))),
+    kind(1, "both bad", Bad, |r, _| both_bad(r)),
+    // Files that are not there
+    kind(1, "image missing", Bad, |r, _| Case { image: Input::Missing, ..good(r) }),
+    kind(1, "script missing", Bad, |r, _| Case { script: Input::Missing, ..good(r) }),
+    kind(1, "both missing", Bad, |_, _| Case { image: Input::Missing, script: Input::Missing }),
+    kind(1, "image is a folder", Bad, |r, _| Case { image: Input::Folder, ..good(r) }),
+    kind(1, "script is a folder", Bad, |r, _| Case { script: Input::Folder, ..good(r) }),
+    kind(1, "image missing, script bad", Bad, |r, _| Case { image: Input::Missing, ..both_bad(r) }),
+    kind(1, "image bad, script missing", Bad, |r, _| Case { script: Input::Missing, ..both_bad(r) }),
+];
+
+pub fn total_weight() -> usize {
+    KINDS.iter().map(|kind| kind.weight).sum()
+}
+
+/// The place in the table of the kind of case `number`: every `total_weight()` cases go once through the table.
+pub fn kind_of(number: usize) -> usize {
+    place_in_table(number % total_weight()).0
+}
+
+/// The case of this number. It depends on the seed and the number alone.
+pub fn case(seed: u64, number: usize) -> Case {
+    let (place, turn) = place_in_table(number % total_weight());
+    let kind = &KINDS[place];
+    let ordinal = number / total_weight() * kind.weight + turn;
+    (kind.make)(&mut Random::new(seed, number as u64), ordinal)
+}
+
+/// A kind's place in the table, and which of its cases in this turn.
+fn place_in_table(mut rest: usize) -> (usize, usize) {
+    for (place, kind) in KINDS.iter().enumerate() {
+        if rest < kind.weight {
+            return (place, rest);
+        }
+        rest -= kind.weight;
+    }
+    unreachable!("the rest is below the sum of the weights")
+}
+
+/// A script made for a generated flash.
+fn on(
+    random: &mut Random,
+    make_flash: fn(&mut Random) -> Flash,
+    make_script: impl Fn(&mut Random, &Flash) -> Vec<u8>,
+) -> Case {
+    let flash = make_flash(random);
+    let script = make_script(random, &flash);
+    Case { image: Input::Text(flash.text()), script: Input::Text(script) }
+}
+
+fn on_any(random: &mut Random, script: impl Fn(&mut Random, &Flash) -> Vec<u8>) -> Case {
+    on(random, flash::any, script)
+}
+
+fn on_openable(random: &mut Random, script: impl Fn(&mut Random, &Flash) -> Vec<u8>) -> Case {
+    on(random, flash::openable, script)
+}
+
+fn good(random: &mut Random) -> Case {
+    on_any(random, scripts::mixed)
+}
+
+fn spoilt_image(random: &mut Random, damage: Damage) -> Case {
+    let flash = flash::any(random);
+    let script = scripts::mixed(random, &flash);
+    Case { image: Input::Text(damage(random, &flash.text())), script: Input::Text(script) }
+}
+
+fn spoilt_script(random: &mut Random, damage: Damage) -> Case {
+    let flash = flash::any(random);
+    let script = scripts::mixed(random, &flash);
+    Case { image: Input::Text(flash.text()), script: Input::Text(damage(random, &script)) }
+}
+
+fn bad_image(random: &mut Random, make: fn(&mut Random) -> Vec<u8>) -> Case {
+    Case { image: Input::Text(make(random)), ..good(random) }
+}
+
+fn both_bad(random: &mut Random) -> Case {
+    let flash = flash::any(random);
+    let script = scripts::mixed(random, &flash);
+    let image = damage::no_digit(random, &flash.text());
+    Case { image: Input::Text(image), script: Input::Text(damage::no_digit(random, &script)) }
+}
+
+/// Image and script of document 01's session.
+fn session() -> Case {
+    const SCRIPT: &str = "013E30 01001404 01007236 016100 013E3000 004006 006001 014502 0160FE 0160FD 01000000 000002";
+    let keys = [&[0x14, 0x04, 0x72, 0x36][..], &[0xFF; 24]].concat();
+    let image = [
+        b"3000000000000001FE\n".to_vec(),
+        flash::line(58, 0, &[0; 32]),
+        flash::line(58, 1, &[0; 32]),
+        flash::line(58, 2, &[0; 32]),
+        flash::line(112, 0, &keys),
+    ];
+    let script = SCRIPT.split(' ').map(|line| format!("{line}\n")).collect::<String>();
+    Case { image: Input::Text(image.concat()), script: Input::Text(script.into_bytes()) }
+}

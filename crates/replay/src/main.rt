@@ -3,6 +3,7 @@
 //
 // Both files are judged before anything is printed, so the script is read twice, each time in chunks: any length of it takes the same
 // memory. What is printed is proved of crate `script`, whose calls do all the work; here they are fed.
+mod blame;
 mod image_file;
 mod input;
 mod output;

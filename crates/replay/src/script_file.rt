@@ -1,6 +1,6 @@
 // script.hex, judged.
+use crate::blame::blame_line;
 use crate::input::read_some;
-use crate::output::complain;
 use script::judge::State;
 use script::judge::end;
 use script::judge::feed;
@@ -64,7 +64,7 @@ pub(crate) fn judged(fd: i32) -> bool {
         return false;
     }
     if end(turn.state) != 0 {
-        complain(b"script.hex: no script");
+        blame_line(fd, &mut buffer);
         return false;
     }
     if libc::lseek(fd, 0, libc::SEEK_SET) != 0 {

@@ -2,7 +2,7 @@
 
 use crate::error::Error;
 use crate::gauge::Gauge;
-use crate::text::{decode, lines, push_byte, push_bytes};
+use crate::text::{decode, push_byte, push_bytes};
 
 /// "01, register, 0 to 255 bytes"
 pub const MAX_FRAME: usize = 2 + 255;
@@ -25,8 +25,14 @@ pub fn frame<'a>(line: &[u8], buffer: &'a mut [u8; MAX_FRAME]) -> Option<Frame<'
 
 /// "one frame a line, digits and line ends as in the image"; "It may be empty."
 pub fn is_valid(text: &[u8]) -> bool {
+    first_bad_line(text).is_none()
+}
+
+/// The number of the first line that is no frame or is not ended, from 1.
+pub fn first_bad_line(text: &[u8]) -> Option<usize> {
     let mut buffer = [0; MAX_FRAME];
-    lines(text).is_some_and(|mut lines| lines.all(|line| frame(line, &mut buffer).is_some()))
+    let is_bad = |line: &[u8]| line.strip_suffix(b"\n").and_then(|line| frame(line, &mut buffer)).is_none();
+    text.split_inclusive(|&c| c == b'\n').position(is_bad).map(|before| before + 1)
 }
 
 /// Runs one frame and appends its reply: "number and count taken, or 00 and the bytes read, or the number alone for a
@@ -84,5 +90,7 @@ mod tests {
         for bad in [&b"\n"[..], b"0140", b"0140\n\n", b"0140\r\n", b"0140\n000001", b"\xEF\xBB\xBF0140\n", b"0140\n\0"] {
             assert!(!is_valid(bad));
         }
+        assert_eq!(first_bad_line(b"0140\n000001\n0240\n0140"), Some(3));
+        assert_eq!(first_bad_line(b"0140\n0140"), Some(2));
     }
 }

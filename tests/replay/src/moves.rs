@@ -320,17 +320,22 @@ pub fn look(draft: &mut Draft) {
     }
 }
 
-/// Registers 0x02 to 0x3D and 0x62 to 0x7F, which take no writes and read 0.
-fn other_register(draft: &mut Draft) {
-    let (low, high) = (draft.random.between(0x02, 0x3D), draft.random.between(0x62, 0x7F));
-    let register = draft.random.pick(&[low, high, 0x02, 0x3D, 0x62, 0x7F]) as u8;
-    let count = draft.random.pick(&[1, 1, 2, 3]);
-    if draft.random.chance(60) {
+/// A write of random bytes in so many cases of a hundred, else a read.
+fn write_or_read(draft: &mut Draft, register: u8, count: usize, percent: usize) {
+    if draft.random.chance(percent) {
         let bytes = draft.random.bytes(count);
         draft.write(register, &bytes);
     } else {
         draft.read(register, count as u8);
     }
+}
+
+/// Registers 0x02 to 0x3D and 0x62 to 0x7F, which take no writes and read 0.
+fn other_register(draft: &mut Draft) {
+    let (low, high) = (draft.random.between(0x02, 0x3D), draft.random.between(0x62, 0x7F));
+    let register = draft.random.pick(&[low, high, 0x02, 0x3D, 0x62, 0x7F]) as u8;
+    let count = draft.random.pick(&[1, 1, 2, 3]);
+    write_or_read(draft, register, count, 60);
 }
 
 /// Registers 0x80 to 0xFF: no span fits.
@@ -338,12 +343,7 @@ fn high_register(draft: &mut Draft) {
     let any = draft.random.byte() | 0x80;
     let register = draft.random.pick(&[any, 0x80, 0xFF, 0xFE]);
     let count = draft.random.pick(&[0, 1, 2, 127, 128, 255]);
-    if draft.random.chance(50) {
-        let bytes = draft.random.bytes(count);
-        draft.write(register, &bytes);
-    } else {
-        draft.read(register, count as u8);
-    }
+    write_or_read(draft, register, count, 50);
 }
 
 /// Register and count together 127, 128 or 129.
@@ -351,12 +351,7 @@ fn span_end(draft: &mut Draft) {
     let any = draft.random.below(128);
     let register = draft.random.pick(&[0x00, 0x01, 0x3E, 0x3F, 0x40, 0x5F, 0x60, 0x61, 0x7E, any]);
     let count = draft.random.pick(&[127, 128, 129]) - register.min(127);
-    if draft.random.chance(60) {
-        let bytes = draft.random.bytes(count);
-        draft.write(register as u8, &bytes);
-    } else {
-        draft.read(register as u8, count as u8);
-    }
+    write_or_read(draft, register as u8, count, 60);
 }
 
 fn write_nothing(draft: &mut Draft) {

@@ -21,7 +21,7 @@ pub enum Ending {
 pub struct Outcome {
     pub ending: Ending,
     pub output: Vec<u8>,
-    pub messages: Vec<u8>,
+    pub messages: String,
 }
 
 /// Puts the case's files into an empty folder.
@@ -52,7 +52,7 @@ pub fn run(program: &Path, folder: &Path, expected_length: usize) -> io::Result<
         .stderr(File::create(&messages)?)
         .spawn()?;
     let ending = wait(&mut child, &output, expected_length as u64 + TOO_LONG)?;
-    Ok(Outcome { ending, output: fs::read(output)?, messages: fs::read(messages)? })
+    Ok(Outcome { ending, output: fs::read(output)?, messages: String::from_utf8_lossy(&fs::read(messages)?).into_owned() })
 }
 
 fn wait(child: &mut Child, output: &Path, longest: u64) -> io::Result<Ending> {
@@ -89,17 +89,34 @@ pub fn differences(case: &Case, expected: &[u8], outcome: &Outcome) -> Vec<Strin
     if outcome.output != expected {
         found.push(format!("standard output differs in line {}", first_difference(expected, &outcome.output)));
     }
-    let (image, script) = (case.image.text(), case.script.text());
-    let none_missing = image.is_some() && script.is_some();
-    if none_missing && expected != b"0A\n" && !outcome.messages.is_empty() {
+    let reasons = reasons(case);
+    if reasons.is_empty() && !outcome.messages.is_empty() {
         found.push("standard error is not empty although both files are good".to_string());
     }
-    // where the other file is bad, it may be the one that was judged first
-    let reason_due = image.is_none_or(is_good_image) && script.is_none_or(model::script::is_valid) && !none_missing;
-    if reason_due && outcome.messages.is_empty() {
-        found.push("no reason on standard error for a file that cannot be read".to_string());
+    for reason in reasons {
+        if !outcome.messages.lines().any(|line| line.starts_with(reason.as_str())) {
+            found.push(format!("standard error has no line that begins with \"{reason}\""));
+        }
     }
     found
+}
+
+/// How a line on standard error begins, for each file that breaks its rules or cannot be read.
+fn reasons(case: &Case) -> Vec<String> {
+    let mut reasons = Vec::new();
+    match case.image.text() {
+        None => reasons.push("image.hex: ".to_string()),
+        Some(text) if !is_good_image(text) => reasons.push("image.hex: no image file".to_string()),
+        Some(_) => {}
+    }
+    match case.script.text() {
+        None => reasons.push("script.hex: ".to_string()),
+        Some(text) => {
+            let line = model::script::first_bad_line(text);
+            reasons.extend(line.map(|line| format!("script.hex: no script: line {line} is no frame")));
+        }
+    }
+    reasons
 }
 
 fn is_good_image(text: &[u8]) -> bool {

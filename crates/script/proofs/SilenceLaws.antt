@@ -24,23 +24,23 @@ stays-on l d f fs e =
     let u = not (unseals l d (callOf f)) in
     (not-true _ (all-first u _ e), all-first _ _ (all-rest u _ e))
 
--- devices that no call tells apart reply the same to frames
+-- devices that no call tells apart reply the same to frames, and keep their images
 alike-frames : (l : Layout) (start₁ start₂ : List ℕ) (fs : List Frame) (d₁ d₂ : Device) → Alike l start₁ start₂ d₁ d₂ (map callOf fs)
-    → staySealed l d₁ fs ≡ true → staySealed l d₂ fs ≡ true → Kept l start₁ (d₁ .image)
-    → (replies l d₁ fs ≡ replies l d₂ fs) × Kept l start₁ (afterFrames l d₁ fs .image)
+    → staySealed l d₁ fs ≡ true → staySealed l d₂ fs ≡ true → Kept l start₁ (d₁ .image) → Kept l start₂ (d₂ .image)
+    → (replies l d₁ fs ≡ replies l d₂ fs) × Kept l start₁ (afterFrames l d₁ fs .image) × Kept l start₂ (afterFrames l d₂ fs .image)
 unfolding replyText afterFrame
-alike-frames l start₁ start₂ [] d₁ d₂ a s₁ s₂ k = (refl, k)
-alike-frames l start₁ start₂ (f ∷ fs) d₁ d₂ a s₁ s₂ k =
+alike-frames l start₁ start₂ [] d₁ d₂ a s₁ s₂ k₁ k₂ = (refl, k₁, k₂)
+alike-frames l start₁ start₂ (f ∷ fs) d₁ d₂ a s₁ s₂ k₁ k₂ =
     let t₁ = stays-on l d₁ f fs s₁ in
     let t₂ = stays-on l d₂ f fs s₂ in
     let b = a (t₁ .0) (t₂ .0) in
-    let w = alike-frames l start₁ start₂ fs (afterFrame l d₁ f) (afterFrame l d₂ f) (b .4) (t₁ .1) (t₂ .1) (b .2) in
-    (rw (b .0, w .0), w .1)
+    let w = alike-frames l start₁ start₂ fs (afterFrame l d₁ f) (afterFrame l d₂ f) (b .4) (t₁ .1) (t₂ .1) (b .2) (b .3) in
+    (rw (b .0, w .0), w .1, w .2)
 
 pub silent-frames : SilentFrames
 silent-frames l image₁ image₂ fs f₁ f₂ a s₁ s₂ =
     alike-frames l image₁ image₂ fs (poweredOn image₁) (poweredOn image₂) (silence l image₁ image₂ f₁ f₂ a (map callOf fs)) s₁ s₂
-    (refl, λ j nb nc. refl)
+    (refl, λ j nb nc. refl) (refl, λ j nb nc. refl)
 
 pub silent-output : SilentOutput
 unfolding replay

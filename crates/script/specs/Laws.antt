@@ -114,12 +114,15 @@ abbrev pub staySealed : Layout → Device → List Frame → Bool
 staySealed l d [] = true
 staySealed l d (f ∷ fs) = all (not (unseals l d (callOf f)) ∷ staySealed l (afterFrame l d f) fs ∷ [])
 
--- two gauges powered on sealed whose images agree, and frames none of which unseals either
+-- two gauges powered on sealed whose images agree, and frames none of which unseals either: those of a whole script, or of any script before the first
+-- that does
 abbrev pub SilentFrames : Type 0
 SilentFrames =
     (l : Layout) (image₁ image₂ : List ℕ) (fs : List Frame) → fits l (length image₁) ≡ true → fits l (length image₂) ≡ true → Agree l image₁ image₂
     → staySealed l (poweredOn image₁) fs ≡ true → staySealed l (poweredOn image₂) fs ≡ true
-    → (replies l (poweredOn image₁) fs ≡ replies l (poweredOn image₂) fs) × Kept l image₁ (afterFrames l (poweredOn image₁) fs .image)
+    → (replies l (poweredOn image₁) fs ≡ replies l (poweredOn image₂) fs)
+    × Kept l image₁ (afterFrames l (poweredOn image₁) fs .image)
+    × Kept l image₂ (afterFrames l (poweredOn image₂) fs .image)
 
 -- "two image texts with equal layouts and manufacturer blocks, one script that unseals neither": the same output text
 abbrev pub SilentOutput : Type 0

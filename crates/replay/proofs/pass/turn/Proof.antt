@@ -5,6 +5,13 @@ use Rattle.replay.proofs.StepLaws.{turn-ran, turn-read}
 use Rattle.replay.proofs.pass.turn.Statement.{statement}
 use Rattle.replay.proofs.pass.turn.Tie as tie
 
+-- where lines were run: what the run ensures and what `turn` requires lie too far back for a search to find them
+returns-2 : tie.Need-returns-2
+returns-2 c =
+    let ran = c .before .before .before .before .before .before .before .before .before .before .before .run-held .ensures in
+    let called = c .before .before .before .before .before .before .before .before .before .before .before .before .before .before .before .before .before .before in
+    (search (needs, ran .1 .0, called .pre), search (turn-ran, ran .1 .0))
+
 pub turn-spec : {M : Type 1} → statement M
 turn-spec =
     tie.close
@@ -23,4 +30,4 @@ turn-spec =
     (λ c. search needs)
     (λ c. search needs)
     (λ c. search needs)
-    (λ c. let e = c .before .before .before .before .before .before .before .before .before .before .before .run-held .ensures in let s = c .before .before .before .before .before .before .before .before .before .before .before .before .before .before .before .before .before .before in (search (needs, e .1 .0, s .pre), search (turn-ran, e .1 .0))))
+    returns-2)

@@ -62,7 +62,7 @@ FeedChunks = (s : State) (x y : List ℕ) → feed s (x ++ y) ≡ feed (feed s x
 abbrev pub ReplyLength : Type 0
 ReplyLength = (l : Layout) (d : Device) (f : Frame) → length (replyText l d f) ≤ maxReply
 
--- "It prints nothing only for an empty script": of texts, `replay` is empty for no other
+-- nothing is printed only for an empty script; the image file may be refused, and then it is not nothing
 abbrev pub NothingPrinted : Type 0
 NothingPrinted = (x y : List ℕ) → replay x y ≡ [] → y ≡ []
 
@@ -124,7 +124,7 @@ SilentFrames =
     × Kept l image₁ (afterFrames l (poweredOn image₁) fs .image)
     × Kept l image₂ (afterFrames l (poweredOn image₂) fs .image)
 
--- "two image texts with equal layouts and manufacturer blocks, one script that unseals neither": the same output text
+-- the texts of two images of one layout that agree, and a script that unseals neither gauge: the same output text
 abbrev pub SilentOutput : Type 0
 SilentOutput =
     (x₁ x₂ y : List ℕ) (l : Layout) (bytes₁ bytes₂ : List ℕ) → image.judge x₁ ≡ image.accepted l bytes₁ → image.judge x₂ ≡ image.accepted l bytes₂

@@ -2,7 +2,7 @@
 -- Assumes nothing.
 use Prim.Native.Nat.{ℕ, _+_, _-_, _≤_}
 use mathlib.Core.Path.{_≡_, refl, sym, _∙_}
-use mathlib.Core.List.{List, [], _∷_, _++_}
+use mathlib.Core.List.{List, [], _∷_, _++_, append-nil}
 use lib.ListN.{length, drop}
 use Rattle.dataflash.specs.declared.layout.Layout.{Layout}
 use Rattle.gaugerules.specs.State.{bootSealed, powerOn}
@@ -12,7 +12,7 @@ use Rattle.script.specs.Replay.{poweredOn}
 use Rattle.script.specs.Run.{left, run}
 use Rattle.script.specs.Host.{Step, arrives, runs, Host, host, step, steps}
 use Rattle.script.specs.declared.answer.Progress.{Progress}
-use Rattle.replay.specs.Held.{held, Longer, BySteps, Passed}
+use Rattle.replay.specs.Held.{held, Longer, Turned, BySteps, Passed}
 use Rattle.replay.proofs.HeldLaws.{held-length, held-drop}
 
 -- ---- steps one after the other
@@ -40,7 +40,7 @@ module _ (l : Layout) where
       rw (steps-append (host d x []) ss ts, ← p, ← q)
       (steps-device (h .device) (h .held) (h .printed) [] ts, steps-held (h .device) (h .held) (h .printed) [] ts)
 
-  pub steps-on : (d d′ d″ : Device) (x x′ x″ : List ℕ) → BySteps l d x d′ x′ → BySteps l d′ x′ d″ x″ → BySteps l d x d″ x″
+  steps-on : (d d′ d″ : Device) (x x′ x″ : List ℕ) → BySteps l d x d′ x′ → BySteps l d′ x′ d″ x″ → BySteps l d x d″ x″
   steps-on d d′ d″ x x′ x″ a b =
       let c = on d d′ x x′ (a .taken) (a .device) (a .text) (b .taken) in
       record { taken = a .taken ++ b .taken; device = c .0 ∙ b .device; text = c .1 ∙ b .text }
@@ -48,15 +48,19 @@ module _ (l : Layout) where
 -- ---- one turn: what is held is run, s being what that left
 
 module _ (l : Layout) (g : Gauge) (image image′ b out out′ : List ℕ) (from to : ℕ) (s : Progress) (p : left s image′ out′ ≡ run l image g (held b from to) out) where
-  pub turn-ran : from + s .next ≤ to → BySteps l (device g image) (held b from to) (device (s .gauge) image′) (held b (from + s .next) to)
+  pub turn-ran : from + s .next ≤ to → Turned l out (device g image) (held b from to) (device (s .gauge) image′) (held b (from + s .next) to)
   unfolding left
-  turn-ran h = record { taken = runs out ∷ []; device = rw (← p); text = rw (← p) (held-drop b from to (s .next) h) }
+  turn-ran h = record { more = []; device = rw (← p); text = rw (← p, append-nil) (held-drop b from to (s .next) h) }
 
   -- and then more is read
   pub turn-read : (b′ : List ℕ) (to′ : ℕ) → s .next ≡ 0 → Longer (held b from to) (held b′ 0 to′)
-      → BySteps l (device g image) (held b from to) (device (s .gauge) image′) (held b′ 0 to′)
+      → Turned l out (device g image) (held b from to) (device (s .gauge) image′) (held b′ 0 to′)
   unfolding left
-  turn-read b′ to′ e m = record { taken = runs out ∷ arrives (m .more) ∷ []; device = rw (← p); text = rw (← p, e) (sym (m .whole)) }
+  turn-read b′ to′ e m = record { more = m .more; device = rw (← p); text = rw (← p, e) (sym (m .whole)) }
+
+pub turn-on : (l : Layout) (out x x′ : List ℕ) (d₀ d d′ : Device) → BySteps l d₀ [] d x → Turned l out d x d′ x′ → BySteps l d₀ [] d′ x′
+turn-on l out x x′ d₀ d d′ a t =
+    steps-on l d₀ d d′ [] x x′ a (record { taken = runs out ∷ arrives (t .more) ∷ []; device = t .device; text = t .text })
 
 -- ---- all turns
 
@@ -69,6 +73,7 @@ module _ (l : Layout) (image b : List ℕ) (g : Gauge) where
   pass-end image₀ from to a h k = record { last = device g image; text = held b from to; steps = a; image = refl; size = held-length b from to h k }
 
   -- where the last turn has just been taken; b₁ is the buffer before it
-  pub pass-last : (image₀ x b₁ : List ℕ) (d : Device) (from to : ℕ) → BySteps l (poweredOn image₀) [] d x → BySteps l d x (device g image) (held b from to)
+  pub pass-last : (image₀ out x b₁ : List ℕ) (d : Device) (from to : ℕ) → BySteps l (poweredOn image₀) [] d x → Turned l out d x (device g image) (held b from to)
       → from ≤ to → to ≤ length b₁ → length b ≡ length b₁ → Passed l (poweredOn image₀) image (to - from)
-  pass-last image₀ x b₁ d from to a t h k e = pass-end image₀ from to (steps-on l (poweredOn image₀) d (device g image) [] x (held b from to) a t) h (rw e k)
+  pass-last image₀ out x b₁ d from to a t h k e =
+      pass-end image₀ from to (turn-on l out x (held b from to) (poweredOn image₀) d (device g image) a t) h (rw e k)

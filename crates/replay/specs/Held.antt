@@ -3,11 +3,11 @@
 -- Assumes nothing.
 use Prim.Native.Nat.{ℕ, _-_}
 use mathlib.Core.Path.{_≡_}
-use mathlib.Core.List.{List, [], _++_}
+use mathlib.Core.List.{List, [], _∷_, _++_}
 use lib.ListN.{length, take, drop}
 use Rattle.dataflash.specs.declared.layout.Layout.{Layout}
 use Rattle.gaugerules.specs.Script.{Device}
-use Rattle.script.specs.Host.{Step, host, steps}
+use Rattle.script.specs.Host.{Step, arrives, runs, host, steps}
 
 -- the text that is held: the buffer's bytes from one index up to another
 abbrev pub held : List ℕ → ℕ → ℕ → List ℕ
@@ -17,6 +17,12 @@ held buffer from to = take (to - from) (drop from buffer)
 pub record Longer (y x : List ℕ) : Type 0 where
   pub more : List ℕ
   pub whole : x ≡ y ++ more
+
+-- one turn leads from a device and a text held to others: the text is run, with this buffer for the replies, and then more may come
+pub record Turned (l : Layout) (out : List ℕ) (d : Device) (x : List ℕ) (d′ : Device) (x′ : List ℕ) : Type 0 where
+  pub more : List ℕ
+  pub device : steps l (host d x []) (runs out ∷ arrives more ∷ []) .device ≡ d′
+  pub text : steps l (host d x []) (runs out ∷ arrives more ∷ []) .held ≡ x′
 
 -- some steps lead from a device and a text held to another device and text
 pub record BySteps (l : Layout) (d : Device) (x : List ℕ) (d′ : Device) (x′ : List ℕ) : Type 0 where

@@ -16,7 +16,7 @@ ghost use lib.ListN.{length, take};
 ghost use Rattle.gaugerules.specs.Script.{device};
 ghost use Rattle.script.specs.Run.{left, run};
 ghost use Rattle.script.specs.Replay.{poweredOn};
-ghost use Rattle.replay.specs.Held.{held, Longer, BySteps, Passed};
+ghost use Rattle.replay.specs.Held.{held, Longer, Turned, Passed};
 
 // The gauge, and which bytes of the buffer are text that has come and was not run.
 struct Held {
@@ -99,7 +99,7 @@ fn turn(
 ) -> Held
     requires { ⌜ (from ≤ to) × (to ≤ length (now buffer)) ⌝ }
     ensures { λ r. ⌜ (r .from ≤ r .to) × (r .to ≤ length (now (buffer .entry))) ⌝ }
-    ensures { λ r. ⌜ BySteps layout (device gauge (now (image .entry))) (held (now (buffer .entry)) from to) (device (r .gauge) (now (image .exit))) (held (now (buffer .exit)) (r .from) (r .to)) ⌝ }
+    ensures { λ r. ⌜ Turned layout (now (out .entry)) (device gauge (now (image .entry))) (held (now (buffer .entry)) from to) (device (r .gauge) (now (image .exit))) (held (now (buffer .exit)) (r .from) (r .to)) ⌝ }
 {
     let ran = run_held(layout, image, gauge, &buffer[..], from, to, out);
     let after = ran.gauge;

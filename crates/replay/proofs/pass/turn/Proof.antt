@@ -1,4 +1,4 @@
--- `replay::pass::turn` meets its contract. A turn is one or two steps of a host.
+-- `replay::pass::turn` meets its contract. What is held is run, and where that took nothing, more is read.
 -- Assumes nothing.
 use borrow.Author.Needs.{needs}
 use Rattle.replay.proofs.StepLaws.{turn-ran, turn-read}

@@ -8,7 +8,7 @@ use lib.ListN.{length}
 use Rattle.gaugerules.specs.Script.{device}
 use Rattle.script.specs.Replay.{poweredOn}
 use Rattle.replay.specs.Held.{held, BySteps}
-use Rattle.replay.proofs.StepLaws.{steps-on, pass-start, pass-end, pass-last}
+use Rattle.replay.proofs.StepLaws.{turn-on, pass-start, pass-end, pass-last}
 use Rattle.replay.proofs.pass.turns.Statement.{statement}
 use Rattle.replay.proofs.pass.turns.Tie as tie
 
@@ -29,7 +29,7 @@ turns-spec =
     (λ c κs. search needs)
     (λ c. search needs)
     (λ c. search needs)
-    (λ c. (search steps-on, search needs, search needs, search needs, search needs, search needs))
+    (λ c. (search turn-on, search needs, search needs, search needs, search needs, search needs))
     (λ c. search needs)
     (λ c. search needs)
     (λ c. search needs)

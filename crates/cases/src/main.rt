@@ -1,22 +1,92 @@
-// The bench cases of document 01 and its session, run: one line an answer, with what the compiled code says, to be held to what the
-// paper says. The cases are also proved of the rules, in specs/Cases.antt.
+// The bench cases of document 01, run: for each the answers of the compiled code, and whether they are those of the table. What is handed to
+// the code is required to be a case of the table in crate `casetable`, which is proved of the rules.
 mod bench;
-mod blocks;
-mod checksums;
-mod files;
 mod session;
 mod text;
-mod transactions;
+mod value;
+
+use crate::session::session;
+use crate::value::change;
+use crate::value::lookup;
+use crate::value::sum;
+use gaugerules::state::BOOT_OPEN;
+use gaugerules::state::BOOT_SEALED;
+
+// Cases that are one call.
+fn values() {
+    sum(0, b"P1", &[0x00; 32], 255);
+    sum(1, b"P2", &[0xFF; 32], 31);
+    change(2, b"P3", 31, 0xFF, 0x00, 30);
+    change(3, b"P4", 0xFE, 0x01, 0x02, 0xFD);
+    lookup(5, b"P6", 48, 1, 0, 1);
+    lookup(6, b"P6", 48, 2, 5, 0);
+}
+
+// Cases that are a script.
+fn sessions() {
+    session(
+        4,
+        b"P5",
+        0,
+        BOOT_SEALED,
+        b"007F01\n007F02\n007F00\n",
+        b"0000\n01\n01\n",
+        0,
+        0,
+    );
+    session(
+        7,
+        b"P7",
+        0,
+        BOOT_OPEN,
+        b"016100\n013E3001\n01400507\n006001\n0160FA\n0160F3\n",
+        b"0001\n0002\n0002\n00F3\n0800\n0001\n",
+        32,
+        5,
+    );
+    session(
+        8,
+        b"P8",
+        0,
+        BOOT_SEALED,
+        b"01001404\n01001404\n01007236\n01000000\n000002\n",
+        b"0002\n0002\n0002\n0002\n000040\n",
+        0,
+        0,
+    );
+    session(
+        9,
+        b"P8",
+        0,
+        BOOT_SEALED,
+        b"01001404\n01000000\n01007236\n01000000\n000002\n",
+        b"0002\n0002\n0002\n0002\n000060\n",
+        0,
+        0,
+    );
+    session(
+        10,
+        b"P9",
+        0,
+        BOOT_SEALED,
+        b"013F01\n014009\n",
+        b"0001\n0700\n",
+        0,
+        0,
+    );
+    session(
+        11,
+        b"P10",
+        0x55,
+        BOOT_OPEN,
+        b"016100\n013E3000\n004020\n01002000\n004020\n",
+        b"0001\n0002\n005500000000000000000000000000000000000000000000000000000000000000\n0002\n000000000000000000000000000000000000000000000000000000000000000000\n",
+        0,
+        0x55,
+    );
+}
 
 fn main() {
-    checksums::run();
-    transactions::spans();
-    blocks::run();
-    transactions::short_block();
-    transactions::keys();
-    transactions::keys_apart();
-    transactions::block_a();
-    transactions::sealing();
-    session::run();
-    files::run();
+    values();
+    sessions();
 }

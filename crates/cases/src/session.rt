@@ -1,42 +1,55 @@
-// The session of document 01, "The replay program", call by call.
-use crate::bench::ask;
-use crate::bench::layout;
-use crate::bench::send;
+// Cases that are a script on a gauge just powered on. Each is case `k` of the table.
+use crate::bench::bench_image;
+use crate::bench::bench_layout;
 use crate::text::show_text;
-use gauge::state::power_on;
-use gaugerules::state::BOOT_SEALED;
+use crate::text::show_verdict;
+use gaugestate::state::power_on;
+use scriptrunner::run::run;
+ghost use mathlib.Core.Path.{_≡_};
+ghost use Prim.Native.Nat.{_<_};
+ghost use Rattle.casetable.specs.Cases.{session, caseAt};
 
-// Class 48 is 00 00 00 00 00 01, class 58 all zero, class 112 is 14 04 72 36 and 24 bytes FF.
-pub(crate) fn image6() -> [u8; 130] {
-    let mut image = [0u8; 130];
-    image[5] = 0x01;
-    image[102] = 0x14;
-    image[103] = 0x04;
-    image[104] = 0x72;
-    image[105] = 0x36;
-    let mut k = 106;
-    while k < 130 {
-        image[k] = 0xFF;
-        k += 1;
+// Room for the replies of any case.
+const ROOM: usize = 1024;
+
+// Whether the script was run whole, printed this and left the image with this byte at this index.
+fn runs_so(first: u8, boot: u8, script: &[u8], output: &[u8], at: usize, byte: u8) -> bool
+    requires { ⌜ at < 157 ⌝ }
+{
+    let mut image = bench_image(first);
+    let mut after = bench_image(first);
+    after[at] = byte;
+    let mut buffer = [0u8; ROOM];
+    let ran = run(
+        bench_layout(),
+        &mut image,
+        power_on(boot),
+        script,
+        &mut buffer,
+    );
+    let n = ran.length;
+    show_text(&buffer[0..n]);
+    if check::same(&buffer[0..n], output) {
+        return check::same(&image, &after);
     }
-    image
+    false
 }
 
-pub(crate) fn run() {
-    let layout = layout(6);
-    let mut image = image6();
-    show_text(b"the session\n");
-    let gauge = power_on(BOOT_SEALED);
-    let gauge = send(layout, &mut image, gauge, 0x3E, &[0x30]);
-    let gauge = send(layout, &mut image, gauge, 0x00, &[0x14, 0x04]);
-    let gauge = send(layout, &mut image, gauge, 0x00, &[0x72, 0x36]);
-    let gauge = send(layout, &mut image, gauge, 0x61, &[0x00]);
-    let gauge = send(layout, &mut image, gauge, 0x3E, &[0x30, 0x00]);
-    ask(layout, &image, gauge, 0x40, &mut [0u8; 6]);
-    ask(layout, &image, gauge, 0x60, &mut [0u8; 1]);
-    let gauge = send(layout, &mut image, gauge, 0x45, &[0x02]);
-    let gauge = send(layout, &mut image, gauge, 0x60, &[0xFE]);
-    let gauge = send(layout, &mut image, gauge, 0x60, &[0xFD]);
-    let gauge = send(layout, &mut image, gauge, 0x00, &[0x00, 0x00]);
-    ask(layout, &image, gauge, 0x00, &mut [0u8; 2]);
+pub(crate) fn session(
+    k: usize,
+    name: &[u8],
+    first: u8,
+    boot: u8,
+    script: &[u8],
+    output: &[u8],
+    at: usize,
+    byte: u8,
+)
+    requires { ⌜ (caseAt k ≡ session first boot (now script) (now output) at byte) × (at < 157) ⌝ }
+{
+    show_text(name);
+    show_text(b"\n");
+    let same = runs_so(first, boot, script, output, at, byte);
+    show_text(name);
+    show_verdict(same);
 }

@@ -9,8 +9,8 @@ use native.Mathlib.Omega.{arith}
 use lib.ListN.{length, getD, take, drop, set, take-append-drop}
 use lib.Seq.{take-suc-set, drop-set-lt}
 use borrow.Author.Tests.{eq-eqb, ne-eqb}
-use Rattle.dataflash.specs.Checksum.{checksum}
-use Rattle.dataflash.specs.declared.layout.Layout.{Layout}
+use Rattle.checksum.specs.Checksum.{checksum}
+use Rattle.flashrules.specs.declared.layout.Layout.{Layout}
 use Rattle.gaugerules.specs.Register.{registers, registerOf}
 use Rattle.gaugerules.specs.Read.{unlessSealed, readAt, readByte, readBytes, answer, seen, readError, read}
 use Rattle.gaugerules.specs.declared.state.Gauge.{Gauge}

@@ -10,9 +10,8 @@ use lib.Dec.{eqb, ltb}
 use lib.ListN.{length, getD, drop, drop-of-length-le}
 use lib.Seq.{drop-cons}
 use borrow.Author.Tests.{eq-eqb, ne-eqb, lt-ltb}
-use Rattle.dataflash.specs.Layout.{fits}
-use Rattle.dataflash.specs.Lookup.{blockSize}
-use Rattle.dataflash.specs.declared.layout.Layout.{Layout}
+use Rattle.flashrules.specs.Lookup.{blockSize}
+use Rattle.flashrules.specs.declared.layout.Layout.{Layout}
 use Rattle.gaugerules.specs.Error.{readOnly}
 use Rattle.gaugerules.specs.State.{withLow}
 use Rattle.gaugerules.specs.Register.{registers, registerOf}
@@ -82,9 +81,10 @@ module _ (l : Layout) (image to : List ℕ) (g : Gauge) (r byte : ℕ) (s : Step
 
 pub ruleset at-register = (at-control-low, at-control-high, at-class, at-block, at-window, at-checksum, at-control, at-other)
 
--- the image goes with the layout as long as it has its length
-pub fits-kept : (l : Layout) (n m : ℕ) → fits l n ≡ true → m ≡ n → fits l m ≡ true
-fits-kept l n m f p = rw p f
+-- a word that is made of two bytes and obeyed
+pub takes-word : (l : Layout) (image : List ℕ) (g r : Gauge) (byte w : ℕ) (s : Step) → w ≡ word (g .low) byte → r ≡ obey l image g w → s ≡ accept r
+    → s ≡ accept (obey l image g (word (g .low) byte))
+takes-word l image g r byte w s p q e = rw (← p, ← q) e
 
 -- ---- the loop over the bytes: what is left to write gives what the whole gives. `e` is its invariant
 
@@ -110,9 +110,6 @@ pub span-long : (r n : ℕ) → registers < n → true ≡ ltb registers (r + n)
 span-long r n p = sym (lt-ltb registers (r + n) (omega arith))
 
 module _ (l : Layout) (image bs : List ℕ) (g : Gauge) (r e : ℕ) (p : e ≡ callError l (length image) g r (length bs)) where
-  pub writes-whole : e ≡ 0 → fits l (length image) ≡ true
-  writes-whole q = called l (length image) g r (length bs) (sym p ∙ q) .fitting
-
   pub writes-span : e ≡ 0 → r + length bs ≤ registers
   writes-span q = called l (length image) g r (length bs) (sym p ∙ q) .span
 

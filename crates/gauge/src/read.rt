@@ -1,10 +1,10 @@
 // A read: so many registers from one on, into a lent buffer. It changes nothing else; a refused one leaves the buffer untouched, and
 // an accepted one the bytes past the answer.
 use crate::register::decode;
-use crate::transfer::window_sum;
 use crate::write::call_error;
-use dataflash::layout::Layout;
-use dataflash::lookup::SHORT_BUFFER;
+use checksum::checksum;
+use flashrules::layout::Layout;
+use flashrules::lookup::SHORT_BUFFER;
 use gaugerules::answer::Reading;
 use gaugerules::register::Register;
 use gaugerules::state::Gauge;
@@ -47,7 +47,7 @@ fn read_byte(gauge: Gauge, register: usize) -> u8
         Register::DataFlashClass => unless_sealed(gauge, gauge.class),
         Register::DataFlashBlock => gauge.block,
         Register::BlockData(k) => window[k],
-        Register::BlockDataChecksum => window_sum(window),
+        Register::BlockDataChecksum => checksum(&window),
         Register::BlockDataControl => unless_sealed(gauge, gauge.control),
         Register::Other => 0,
     }

@@ -1,19 +1,14 @@
 // A write: its bytes one by one at the register, the next and so on, until one is refused. A refused byte alters neither gauge nor
 // image; the bytes before it stand.
 use crate::register::decode;
-use crate::state::join;
-use crate::transfer::accept;
-use crate::transfer::commit;
-use crate::transfer::edit;
-use crate::transfer::refuse;
-use crate::transfer::select_block;
-use crate::transfer::set_class;
-use crate::transfer::set_control;
-use crate::valid::valid;
-use crate::word::obey;
-use dataflash::layout::Layout;
-use dataflash::layout::fits;
-use dataflash::lookup::INVALID_LAYOUT;
+use blocktransfer::commit;
+use blocktransfer::edit;
+use blocktransfer::select_block;
+use blocktransfer::set_class;
+use blocktransfer::set_control;
+use controlword::obey;
+use flashrules::layout::Layout;
+use flashrules::lookup::INVALID_LAYOUT;
 use gaugerules::answer::INVALID_GAUGE;
 use gaugerules::answer::INVALID_SPAN;
 use gaugerules::answer::READ_ONLY;
@@ -22,11 +17,12 @@ use gaugerules::answer::Written;
 use gaugerules::register::REGISTERS;
 use gaugerules::register::Register;
 use gaugerules::state::Gauge;
+use gaugestate::state::join;
+use gaugestate::valid::valid;
+use layout::valid::fits;
 ghost use mathlib.Core.Path.{_≡_};
-ghost use mathlib.Core.Bool.{true};
 ghost use Prim.Native.Nat.{_+_, _≤_};
 ghost use lib.ListN.{length};
-ghost use Rattle.dataflash.specs.Layout.{fits};
 ghost use Rattle.gaugerules.specs.Register.{registers};
 ghost use Rattle.gaugerules.specs.Transfer.{accept};
 ghost use Rattle.gaugerules.specs.State.{withLow};
@@ -39,20 +35,24 @@ fn keep_low(gauge: Gauge, byte: u8) -> Step
 {
     let mut next = gauge;
     next.low = byte;
-    accept(next)
+    Step {
+        error: 0,
+        gauge: next,
+    }
 }
 
 // 0x01.
 fn take_word(layout: Layout, image: &[u8], gauge: Gauge, byte: u8) -> Step
-    requires { ⌜ fits layout (length (now image)) ≡ true ⌝ }
     ensures { λ s. ⌜ s ≡ accept (obey layout (now (image .entry)) gauge (word (gauge .low) byte)) ⌝ }
 {
-    accept(obey(layout, image, gauge, join(byte, gauge.low)))
+    Step {
+        error: 0,
+        gauge: obey(layout, image, gauge, join(byte, gauge.low)),
+    }
 }
 
 // One byte at a register.
 fn write_byte(layout: Layout, image: &mut [u8], gauge: Gauge, register: usize, byte: u8) -> Step
-    requires { ⌜ fits layout (length (now image)) ≡ true ⌝ }
     ensures { λ s. ⌜ after s (now (image .exit)) ≡ writeByte layout (now (image .entry)) gauge register byte ⌝ }
 {
     let kind = decode(register);
@@ -64,7 +64,10 @@ fn write_byte(layout: Layout, image: &mut [u8], gauge: Gauge, register: usize, b
         Register::BlockData(k) => edit(gauge, k, byte),
         Register::BlockDataChecksum => commit(layout, image, gauge, byte),
         Register::BlockDataControl => set_control(gauge, byte),
-        Register::Other => refuse(READ_ONLY, gauge),
+        Register::Other => Step {
+            error: READ_ONLY,
+            gauge,
+        },
     }
 }
 
@@ -111,7 +114,7 @@ fn write_bytes(
     register: usize,
     bytes: &[u8],
 ) -> Written
-    requires { ⌜ (fits layout (length (now image)) ≡ true) × (register + length (now bytes) ≤ registers) ⌝ }
+    requires { ⌜ register + length (now bytes) ≤ registers ⌝ }
     ensures { λ w. ⌜ done w (now (image .exit)) ≡ writeBytes layout (now (image .entry)) gauge register 0 (now (bytes .entry)) ⌝ }
 {
     let mut next = gauge;

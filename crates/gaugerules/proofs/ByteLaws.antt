@@ -8,10 +8,10 @@ use native.Mathlib.Omega.{arith}
 use lib.Dec.{eqb}
 use lib.ListN.{take}
 use borrow.Author.Tests.{eqb-false}
-use Rattle.dataflash.specs.Answer.{unknownBlock}
-use Rattle.dataflash.specs.Layout.{infoClass}
-use Rattle.dataflash.specs.declared.layout.Layout.{Layout}
-use Rattle.dataflash.proofs.Picks.{on-test}
+use Rattle.flashrules.specs.Answer.{unknownBlock}
+use Rattle.flashrules.specs.Layout.{infoClass}
+use Rattle.flashrules.specs.declared.layout.Layout.{Layout}
+use Rattle.flashrules.proofs.Picks.{on-test}
 use Rattle.gaugerules.specs.Error.{sealedRegister, invalidControl}
 use Rattle.gaugerules.specs.Register.{registerOf}
 use Rattle.gaugerules.specs.Transfer.{accept, refuse, loadBlock, selectBlock, editError}

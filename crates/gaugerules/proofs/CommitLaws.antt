@@ -7,13 +7,13 @@ use mathlib.Core.List.{List}
 use lib.Dec.{eqb}
 use lib.ListN.{length}
 use borrow.Author.Tests.{eqb-false, not-true}
-use Rattle.dataflash.specs.Answer.{lengthOf}
-use Rattle.dataflash.specs.Layout.{fits}
-use Rattle.dataflash.specs.Lookup.{findBlock, blockExists}
-use Rattle.dataflash.specs.Checksum.{checksum}
-use Rattle.dataflash.specs.declared.layout.Layout.{Layout}
-use Rattle.dataflash.proofs.Laws.{block-inside, exists-found, store-length, store-here, store-outside}
-use Rattle.dataflash.proofs.Picks.{all-first, on-test, on-answer}
+use Rattle.checksum.specs.Checksum.{checksum}
+use Rattle.flashrules.specs.Answer.{lengthOf}
+use Rattle.flashrules.specs.Layout.{fits}
+use Rattle.flashrules.specs.Lookup.{findBlock, blockExists}
+use Rattle.flashrules.specs.declared.layout.Layout.{Layout}
+use Rattle.flashrules.proofs.Laws.{block-inside, exists-found, store-length, store-here, store-outside}
+use Rattle.flashrules.proofs.Picks.{all-first, on-test, on-answer}
 use Rattle.gaugerules.specs.State.{noneLoaded, loadedClass, loadedBlock}
 use Rattle.gaugerules.specs.Valid.{loadedValid}
 use Rattle.gaugerules.specs.Register.{registerOf}

@@ -9,10 +9,10 @@ use native.Mathlib.Omega.{arith}
 use lib.Dec.{eqb}
 use lib.ListN.{length, getD, take}
 use borrow.Author.Tests.{ne-eqb, eqb-true, eqb-false}
-use Rattle.dataflash.specs.Layout.{infoClass}
-use Rattle.dataflash.specs.Image.{maxByte, Bytes}
-use Rattle.dataflash.specs.declared.layout.Layout.{Layout}
-use Rattle.dataflash.proofs.Picks.{pick-last, on-test, on-cond}
+use Rattle.flashrules.specs.Layout.{infoClass}
+use Rattle.flashrules.specs.Image.{maxByte, Bytes}
+use Rattle.flashrules.specs.declared.layout.Layout.{Layout}
+use Rattle.flashrules.proofs.Picks.{pick-last, on-test, on-cond}
 use Rattle.gaugerules.specs.State.{sealed, bootSealed, noWord, isSealed, withLow, powerOn}
 use Rattle.gaugerules.specs.Valid.{maxWord}
 use Rattle.gaugerules.specs.Register.{controlLow, controlHigh, registerOf}

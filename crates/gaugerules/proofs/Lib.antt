@@ -8,3 +8,4 @@ pub mod ValidLaws
 pub mod CommitLaws
 pub mod ReadLaws
 pub mod Silence
+pub mod Picks

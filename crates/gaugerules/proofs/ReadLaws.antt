@@ -7,9 +7,9 @@ use lib.Dec.{eqb, ltb}
 use lib.ListN.{length, drop}
 use lib.Seq.{take-at, drop-at}
 use borrow.Author.Tests.{eqb-true, eqb-false, ltb-false}
-use Rattle.dataflash.specs.Answer.{shortBuffer}
-use Rattle.dataflash.specs.declared.layout.Layout.{Layout}
-use Rattle.dataflash.proofs.Picks.{on-test}
+use Rattle.flashrules.specs.Answer.{shortBuffer}
+use Rattle.flashrules.specs.declared.layout.Layout.{Layout}
+use Rattle.flashrules.proofs.Picks.{on-test}
 use Rattle.gaugerules.specs.Write.{callError}
 use Rattle.gaugerules.specs.Read.{readBytes, seen, readError, read}
 use Rattle.gaugerules.specs.Laws.{ReadRefused, ReadAccepted}

@@ -5,8 +5,8 @@ use mathlib.Core.Path.{_≡_}
 use native.Mathlib.Omega.{arith}
 use lib.Dec.{eqb, ltb}
 use borrow.Author.Tests.{eqb-true, ltb-true, ltb-false}
-use Rattle.dataflash.specs.Lookup.{blockSize}
-use Rattle.dataflash.proofs.Picks.{on-cond}
+use Rattle.flashrules.specs.Lookup.{blockSize}
+use Rattle.flashrules.proofs.Picks.{on-cond}
 use Rattle.gaugerules.specs.Register.{controlLow, controlHigh, dataFlashClass, dataFlashBlock, blockData, blockDataChecksum, blockDataControl, registerOf}
 use Rattle.gaugerules.specs.declared.register.Register.{Register}
 

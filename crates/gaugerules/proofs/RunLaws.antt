@@ -8,10 +8,10 @@ use mathlib.Core.List.{List, [], _∷_}
 use native.Mathlib.Omega.{arith}
 use lib.Dec.{eqb, ltb}
 use borrow.Author.Tests.{ltb-false}
-use Rattle.dataflash.specs.Answer.{invalidLayout}
-use Rattle.dataflash.specs.Layout.{fits}
-use Rattle.dataflash.specs.declared.layout.Layout.{Layout}
-use Rattle.dataflash.proofs.Picks.{on-test}
+use Rattle.flashrules.specs.Answer.{invalidLayout}
+use Rattle.flashrules.specs.Layout.{fits}
+use Rattle.flashrules.specs.declared.layout.Layout.{Layout}
+use Rattle.flashrules.proofs.Picks.{on-test}
 use Rattle.gaugerules.specs.Error.{invalidSpan, invalidGauge}
 use Rattle.gaugerules.specs.Valid.{valid}
 use Rattle.gaugerules.specs.Register.{controlHigh, registers, registerOf}

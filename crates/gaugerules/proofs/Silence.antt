@@ -10,16 +10,15 @@ use native.Mathlib.Omega.{arith}
 use lib.Dec.{eqb, ltb}
 use lib.ListN.{length, length-set}
 use borrow.Author.Tests.{eqb-true, eqb-false, leb-true, ltb-true}
-use Rattle.dataflash.specs.Answer.{unknownBlock}
-use Rattle.dataflash.specs.Choice.{all}
-use Rattle.dataflash.specs.Layout.{infoClass, fits}
-use Rattle.dataflash.specs.Lookup.{blockSize}
-use Rattle.dataflash.specs.Image.{blockBytes, storeBlock}
-use Rattle.dataflash.specs.Checksum.{loaded}
-use Rattle.dataflash.specs.declared.layout.Layout.{Layout}
-use Rattle.dataflash.proofs.Laws.{loaded-length, store-length, store-here, store-outside, store-elsewhere}
-use Rattle.dataflash.proofs.LayoutLaws.{fits-parts}
-use Rattle.dataflash.proofs.Picks.{all-first, all-rest, on-test, on-cond}
+use Rattle.flashrules.specs.Answer.{unknownBlock}
+use Rattle.flashrules.specs.Choice.{all}
+use Rattle.flashrules.specs.Layout.{infoClass, fits}
+use Rattle.flashrules.specs.Lookup.{blockSize}
+use Rattle.flashrules.specs.Image.{blockBytes, storeBlock, loaded}
+use Rattle.flashrules.specs.declared.layout.Layout.{Layout}
+use Rattle.flashrules.proofs.Laws.{loaded-length, store-length, store-here, store-outside, store-elsewhere}
+use Rattle.flashrules.proofs.LayoutLaws.{fits-parts}
+use Rattle.flashrules.proofs.Picks.{all-first, all-rest, on-test, on-cond}
 use Rattle.gaugerules.specs.Error.{sealedRegister, readOnly, nothingLoaded, protectedBlock}
 use Rattle.gaugerules.specs.State.{sealed, bootSealed, noBlock, controlInfo, infoBlocks, blockA, blockB, blockC, packed, loadedClass, loadedBlock}
 use Rattle.gaugerules.specs.State.{isSealed, isFullAccess, nonePending, noneLoaded, withLow, powerOn}

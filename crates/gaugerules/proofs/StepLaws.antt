@@ -8,14 +8,13 @@ use mathlib.Core.List.{List}
 use lib.Dec.{eqb, leb}
 use lib.ListN.{length, set}
 use borrow.Author.Tests.{eqb-true, leb-true}
-use Rattle.dataflash.specs.Answer.{unknownBlock}
-use Rattle.dataflash.specs.Layout.{infoClass}
-use Rattle.dataflash.specs.Lookup.{findBlock}
-use Rattle.dataflash.specs.Image.{blockBytes}
-use Rattle.dataflash.specs.Checksum.{loaded}
-use Rattle.dataflash.specs.declared.layout.Layout.{Layout}
-use Rattle.dataflash.specs.declared.lookup.Lookup.{Lookup}
-use Rattle.dataflash.proofs.Picks.{all-first, all-rest, on-answer, on-cond}
+use Rattle.flashrules.specs.Answer.{unknownBlock}
+use Rattle.flashrules.specs.Layout.{infoClass}
+use Rattle.flashrules.specs.Lookup.{findBlock}
+use Rattle.flashrules.specs.Image.{blockBytes, loaded}
+use Rattle.flashrules.specs.declared.layout.Layout.{Layout}
+use Rattle.flashrules.specs.declared.lookup.Lookup.{Lookup}
+use Rattle.flashrules.proofs.Picks.{all-first, all-rest, on-answer, on-cond}
 use Rattle.gaugerules.specs.Error.{sealedRegister, invalidControl}
 use Rattle.gaugerules.specs.State.{controlInfo, infoBlocks, isSealed, generalAccess, withControl, withClass, withWindow, unload, load}
 use Rattle.gaugerules.specs.Transfer.{accept, refuse, setClass, loadBlock, selectsInfo, selectBlock, editError, edit, commitError, committed, setControl}

@@ -9,13 +9,12 @@ use native.Mathlib.Omega.{arith}
 use lib.Dec.{eqb}
 use lib.ListN.{length, length-set}
 use borrow.Author.Tests.{eqb-true, leb-true, eq-eqb, ne-eqb, lt-ltb, le-leb}
-use Rattle.dataflash.specs.Layout.{infoClass, fits}
-use Rattle.dataflash.specs.Lookup.{blockSize, blockExists}
-use Rattle.dataflash.specs.Image.{maxByte, Bytes, blockBytes}
-use Rattle.dataflash.specs.Checksum.{loaded}
-use Rattle.dataflash.specs.declared.layout.Layout.{Layout}
-use Rattle.dataflash.proofs.Laws.{loaded-length, exists-found, store-length}
-use Rattle.dataflash.proofs.Picks.{all-first, all-rest, all-both, on-test, on-cond}
+use Rattle.flashrules.specs.Layout.{infoClass, fits}
+use Rattle.flashrules.specs.Lookup.{blockSize, blockExists}
+use Rattle.flashrules.specs.Image.{maxByte, Bytes, blockBytes, loaded}
+use Rattle.flashrules.specs.declared.layout.Layout.{Layout}
+use Rattle.flashrules.proofs.Laws.{loaded-length, exists-found, store-length}
+use Rattle.flashrules.proofs.Picks.{all-first, all-rest, all-both, on-test, on-cond}
 use Rattle.gaugerules.specs.Error.{nothingLoaded}
 use Rattle.gaugerules.specs.State.{unsealed, fullAccess, bootSealed, bootOpen, noWord, noBlock, controlInfo, infoBlocks, isSealed, isFullAccess, nonePending, noneLoaded}
 use Rattle.gaugerules.specs.State.{packed, loadedClass, loadedBlock, withLow, withPending, withResult, withControl, withClass, powerOn, load, unload}

@@ -1,4 +1,4 @@
--- The error numbers of a transaction. Document 01, "Numbers of the refusals"; 4, 5, 10 and 14 are dataflash's.
+-- The error numbers of a transaction. Document 01, "Numbers of the refusals"; 4, 5, 10 and 14 are flashrules'.
 -- Assumes nothing.
 use Prim.Native.Nat.{ℕ}
 

@@ -6,14 +6,14 @@ use mathlib.Core.Bool.{Bool, true, false, not}
 use mathlib.Core.List.{List, [], _∷_, _++_}
 use lib.Dec.{eqb}
 use lib.ListN.{length, getD, take, drop}
-use Rattle.dataflash.specs.Answer.{lengthOf}
-use Rattle.dataflash.specs.Choice.{all}
-use Rattle.dataflash.specs.Layout.{infoClass, fits}
-use Rattle.dataflash.specs.Lookup.{findBlock}
-use Rattle.dataflash.specs.Image.{Bytes, blockBytes}
-use Rattle.dataflash.specs.Checksum.{checksum}
-use Rattle.dataflash.specs.Laws.{Within}
-use Rattle.dataflash.specs.declared.layout.Layout.{Layout}
+use Rattle.checksum.specs.Checksum.{checksum}
+use Rattle.flashrules.specs.Answer.{lengthOf}
+use Rattle.flashrules.specs.Choice.{all}
+use Rattle.flashrules.specs.Layout.{infoClass, fits}
+use Rattle.flashrules.specs.Lookup.{findBlock}
+use Rattle.flashrules.specs.Image.{Bytes, blockBytes}
+use Rattle.flashrules.specs.Laws.{Within}
+use Rattle.flashrules.specs.declared.layout.Layout.{Layout}
 use Rattle.gaugerules.specs.State.{bootSealed, infoBlocks, blockB, blockC, isSealed, noneLoaded, loadedClass, loadedBlock, powerOn}
 use Rattle.gaugerules.specs.Valid.{valid}
 use Rattle.gaugerules.specs.Register.{blockDataChecksum}

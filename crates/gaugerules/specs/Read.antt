@@ -5,9 +5,9 @@ use mathlib.Core.Bool.{cond}
 use mathlib.Core.List.{List, [], _∷_, _++_}
 use lib.Dec.{eqb, ltb}
 use lib.ListN.{length, getD, drop}
-use Rattle.dataflash.specs.Answer.{shortBuffer}
-use Rattle.dataflash.specs.Checksum.{checksum}
-use Rattle.dataflash.specs.declared.layout.Layout.{Layout}
+use Rattle.checksum.specs.Checksum.{checksum}
+use Rattle.flashrules.specs.Answer.{shortBuffer}
+use Rattle.flashrules.specs.declared.layout.Layout.{Layout}
 use Rattle.gaugerules.specs.State.{isSealed}
 use Rattle.gaugerules.specs.Register.{registerOf}
 use Rattle.gaugerules.specs.Write.{callError}

@@ -5,8 +5,8 @@ use mathlib.Core.Bool.{Bool, false, cond, not}
 use mathlib.Core.List.{List, [], _∷_}
 use lib.Dec.{eqb}
 use lib.ListN.{take}
-use Rattle.dataflash.specs.Choice.{all}
-use Rattle.dataflash.specs.declared.layout.Layout.{Layout}
+use Rattle.flashrules.specs.Choice.{all}
+use Rattle.flashrules.specs.declared.layout.Layout.{Layout}
 use Rattle.gaugerules.specs.State.{isSealed}
 use Rattle.gaugerules.specs.Register.{controlLow, controlHigh}
 use Rattle.gaugerules.specs.Word.{word, statusWord, sealWord, resetWord, unsealKey, keys, isKey}

@@ -6,7 +6,7 @@ use mathlib.Core.Bool.{Bool, false, cond}
 use mathlib.Core.List.{List}
 use lib.Dec.{eqb}
 use lib.ListN.{replicate}
-use Rattle.dataflash.specs.Lookup.{blockSize}
+use Rattle.flashrules.specs.Lookup.{blockSize}
 use Rattle.gaugerules.specs.declared.state.Gauge.{Gauge}
 
 -- ---- named numbers

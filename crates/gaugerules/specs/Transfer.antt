@@ -6,13 +6,13 @@ use mathlib.Core.Bool.{Bool, cond}
 use mathlib.Core.List.{List, [], _∷_}
 use lib.Dec.{eqb, leb}
 use lib.ListN.{length, set}
-use Rattle.dataflash.specs.Answer.{ifFound, unknownBlock}
-use Rattle.dataflash.specs.Choice.{all}
-use Rattle.dataflash.specs.Layout.{infoClass}
-use Rattle.dataflash.specs.Lookup.{findBlock}
-use Rattle.dataflash.specs.Image.{blockBytes, storeBlock}
-use Rattle.dataflash.specs.Checksum.{checksum, loaded}
-use Rattle.dataflash.specs.declared.layout.Layout.{Layout}
+use Rattle.checksum.specs.Checksum.{checksum}
+use Rattle.flashrules.specs.Answer.{ifFound, unknownBlock}
+use Rattle.flashrules.specs.Choice.{all}
+use Rattle.flashrules.specs.Layout.{infoClass}
+use Rattle.flashrules.specs.Lookup.{findBlock}
+use Rattle.flashrules.specs.Image.{blockBytes, storeBlock, loaded}
+use Rattle.flashrules.specs.declared.layout.Layout.{Layout}
 use Rattle.gaugerules.specs.Error.{sealedRegister, nothingLoaded, protectedBlock, wrongChecksum, invalidControl}
 use Rattle.gaugerules.specs.State.{controlInfo, infoBlocks, blockA, isSealed, noneLoaded, generalAccess, packed, loadedClass, loadedBlock, withControl, withClass, withWindow, unload, load}
 use Rattle.gaugerules.specs.declared.state.Gauge.{Gauge}

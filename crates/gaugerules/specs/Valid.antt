@@ -5,11 +5,11 @@ use mathlib.Core.Bool.{Bool, true, false, cond}
 use mathlib.Core.List.{List, [], _∷_}
 use lib.Dec.{eqb, leb, ltb}
 use lib.ListN.{length}
-use Rattle.dataflash.specs.Choice.{all}
-use Rattle.dataflash.specs.Layout.{infoClass}
-use Rattle.dataflash.specs.Lookup.{blockSize, blockExists}
-use Rattle.dataflash.specs.Image.{maxByte}
-use Rattle.dataflash.specs.declared.layout.Layout.{Layout}
+use Rattle.flashrules.specs.Choice.{all}
+use Rattle.flashrules.specs.Layout.{infoClass}
+use Rattle.flashrules.specs.Lookup.{blockSize, blockExists}
+use Rattle.flashrules.specs.Image.{maxByte}
+use Rattle.flashrules.specs.declared.layout.Layout.{Layout}
 use Rattle.gaugerules.specs.State.{fullAccess, bootOpen, noWord, noBlock, controlInfo, infoBlocks, isSealed, isFullAccess, nonePending, noneLoaded, loadedClass, loadedBlock}
 use Rattle.gaugerules.specs.declared.state.Gauge.{Gauge}
 

@@ -5,10 +5,10 @@ use mathlib.Core.Bool.{Bool, cond}
 use mathlib.Core.List.{List, [], _∷_}
 use lib.Dec.{eqb}
 use lib.ListN.{getD}
-use Rattle.dataflash.specs.Choice.{all}
-use Rattle.dataflash.specs.Layout.{keyClass}
-use Rattle.dataflash.specs.Image.{blockBytes}
-use Rattle.dataflash.specs.declared.layout.Layout.{Layout}
+use Rattle.flashrules.specs.Choice.{all}
+use Rattle.flashrules.specs.Layout.{keyClass}
+use Rattle.flashrules.specs.Image.{blockBytes}
+use Rattle.flashrules.specs.declared.layout.Layout.{Layout}
 use Rattle.gaugerules.specs.State.{unsealed, fullAccess, bootSealed, noWord, isSealed, isFullAccess, nonePending, withMode, withPending, withResult, powerOn}
 use Rattle.gaugerules.specs.declared.state.Gauge.{Gauge}
 

@@ -5,9 +5,9 @@ use mathlib.Core.Bool.{Bool, true, cond}
 use mathlib.Core.List.{List, [], _∷_}
 use lib.Dec.{eqb, ltb}
 use lib.ListN.{length}
-use Rattle.dataflash.specs.Answer.{invalidLayout}
-use Rattle.dataflash.specs.Layout.{fits}
-use Rattle.dataflash.specs.declared.layout.Layout.{Layout}
+use Rattle.flashrules.specs.Answer.{invalidLayout}
+use Rattle.flashrules.specs.Layout.{fits}
+use Rattle.flashrules.specs.declared.layout.Layout.{Layout}
 use Rattle.gaugerules.specs.Error.{invalidSpan, readOnly, invalidGauge}
 use Rattle.gaugerules.specs.State.{withLow}
 use Rattle.gaugerules.specs.Valid.{valid}

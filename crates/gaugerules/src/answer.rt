@@ -22,7 +22,7 @@ pub struct Reading {
     pub accepted: usize,
 }
 
-// The refusals of a transaction. 4, 5, 10 and 14 are in crate `dataflash`.
+// The refusals of a transaction. 4, 5, 10 and 14 are in crate `flashrules`.
 pub const INVALID_SPAN: u8 = 1;
 
 pub const READ_ONLY: u8 = 2;

@@ -1,6 +1,6 @@
 // The state of a gauge (document 01: the gauge record). Numbers only, so that a host program can hold it and any record whatever
 // can be passed; whether one is valid is a test.
-use dataflash::lookup::BLOCK_SIZE;
+use flashrules::lookup::BLOCK_SIZE;
 
 // Modes.
 pub const SEALED: u8 = 0;

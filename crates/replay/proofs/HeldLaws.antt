@@ -7,8 +7,8 @@ use native.Mathlib.Nat.{sub-zero, zero-add}
 use native.Mathlib.Omega.{arith}
 use lib.ListN.{length, take, drop, getD, set, length-take, length-drop}
 use lib.Seq.{take-suc, take-suc-set, drop-set-lt, drop-drop, take-nil, take-add, take-at, length-take-le, getD-drop}
-use Rattle.script.specs.Judge.{feed}
-use Rattle.script.specs.declared.judge.State.{State}
+use Rattle.scriptrules.specs.Judge.{feed}
+use Rattle.scriptrules.specs.declared.judge.State.{State}
 use Rattle.replay.specs.Held.{held, Longer}
 
 -- ---- moved to the front: (t, u) is the loop's invariant, after i bytes

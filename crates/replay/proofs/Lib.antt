@@ -1,3 +1,2 @@
 pub mod HeldLaws
 pub mod StepLaws
-pub mod SessionHolds

@@ -4,14 +4,14 @@ use Prim.Native.Nat.{ℕ, _+_, _-_, _≤_}
 use mathlib.Core.Path.{_≡_, refl, sym, _∙_}
 use mathlib.Core.List.{List, [], _∷_, _++_, append-nil}
 use lib.ListN.{length, drop}
-use Rattle.dataflash.specs.declared.layout.Layout.{Layout}
+use Rattle.flashrules.specs.declared.layout.Layout.{Layout}
 use Rattle.gaugerules.specs.State.{bootSealed, powerOn}
 use Rattle.gaugerules.specs.Script.{Device, device}
 use Rattle.gaugerules.specs.declared.state.Gauge.{Gauge}
-use Rattle.script.specs.Replay.{poweredOn}
-use Rattle.script.specs.Run.{left, run}
-use Rattle.script.specs.Host.{Step, arrives, runs, Host, host, step, steps}
-use Rattle.script.specs.declared.answer.Progress.{Progress}
+use Rattle.scriptrules.specs.Replay.{poweredOn}
+use Rattle.scriptrules.specs.Run.{left, run}
+use Rattle.scriptrules.specs.Host.{Step, arrives, runs, Host, host, step, steps}
+use Rattle.scriptrules.specs.declared.answer.Progress.{Progress}
 use Rattle.replay.specs.Held.{held, Longer, Turned, BySteps, Passed}
 use Rattle.replay.proofs.HeldLaws.{held-length, held-drop}
 
@@ -22,23 +22,19 @@ module _ (l : Layout) where
   steps-append h [] ts = refl
   steps-append h (s ∷ ss) ts = steps-append (step l h s) ss ts
 
-  -- what was printed before makes no difference
-  steps-device : (d : Device) (x p q : List ℕ) (ss : List Step) → steps l (host d x p) ss .device ≡ steps l (host d x q) ss .device
-  steps-device d x p q [] = refl
-  steps-device d x p q (arrives y ∷ ss) = steps-device d (x ++ y) p q ss
-  steps-device d x p q (runs b ∷ ss) = steps-device _ _ _ _ ss
-
-  steps-held : (d : Device) (x p q : List ℕ) (ss : List Step) → steps l (host d x p) ss .held ≡ steps l (host d x q) ss .held
-  steps-held d x p q [] = refl
-  steps-held d x p q (arrives y ∷ ss) = steps-held d (x ++ y) p q ss
-  steps-held d x p q (runs b ∷ ss) = steps-held _ _ _ _ ss
+  -- what was printed before makes no difference to the device or to the text that is held
+  steps-printed : (d : Device) (x p q : List ℕ) (ss : List Step)
+      → (steps l (host d x p) ss .device ≡ steps l (host d x q) ss .device) × (steps l (host d x p) ss .held ≡ steps l (host d x q) ss .held)
+  steps-printed d x p q [] = (refl, refl)
+  steps-printed d x p q (arrives y ∷ ss) = steps-printed d (x ++ y) p q ss
+  steps-printed d x p q (runs b ∷ ss) = steps-printed _ _ _ _ ss
 
   on : (d d′ : Device) (x x′ : List ℕ) (ss : List Step) → steps l (host d x []) ss .device ≡ d′ → steps l (host d x []) ss .held ≡ x′
       → (ts : List Step) → (steps l (host d x []) (ss ++ ts) .device ≡ steps l (host d′ x′ []) ts .device) × (steps l (host d x []) (ss ++ ts) .held ≡ steps l (host d′ x′ []) ts .held)
   on d d′ x x′ ss p q ts =
       let h = steps l (host d x []) ss in
       rw (steps-append (host d x []) ss ts, ← p, ← q)
-      (steps-device (h .device) (h .held) (h .printed) [] ts, steps-held (h .device) (h .held) (h .printed) [] ts)
+      (steps-printed (h .device) (h .held) (h .printed) [] ts)
 
   steps-on : (d d′ d″ : Device) (x x′ x″ : List ℕ) → BySteps l d x d′ x′ → BySteps l d′ x′ d″ x″ → BySteps l d x d″ x″
   steps-on d d′ d″ x x′ x″ a b =

@@ -1,13 +1,13 @@
--- What the second pass does, as a host's steps (crate `script`, specs/Host.antt): by the claim `HostPrints` there, a host that has run all of a
+-- What the second pass does, as a host's steps (crate `scriptrules`, specs/Host.antt): by the claim `HostPrints` there, a host that has run all of a
 -- script has printed what document 01 asks for. No contract can say what is read from a file or printed.
 -- Assumes nothing.
 use Prim.Native.Nat.{ℕ, _-_}
 use mathlib.Core.Path.{_≡_}
 use mathlib.Core.List.{List, [], _∷_, _++_}
 use lib.ListN.{length, take, drop}
-use Rattle.dataflash.specs.declared.layout.Layout.{Layout}
+use Rattle.flashrules.specs.declared.layout.Layout.{Layout}
 use Rattle.gaugerules.specs.Script.{Device}
-use Rattle.script.specs.Host.{Step, arrives, runs, host, steps}
+use Rattle.scriptrules.specs.Host.{Step, arrives, runs, host, steps}
 
 -- the text that is held: the buffer's bytes from one index up to another
 abbrev pub held : List ℕ → ℕ → ℕ → List ℕ

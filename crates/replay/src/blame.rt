@@ -1,11 +1,11 @@
 // Which line of a script breaks its rules, for the message: the script is read once more, character by character.
 use crate::input::read_some;
 use crate::output::complain;
-use imagefile::text::LINE_FEED;
+use imagerules::text::LINE_FEED;
 use libc::STDERR_FILENO;
-use script::judge::State;
-use script::judge::feed;
-use script::judge::start;
+use scriptparser::feed;
+use scriptparser::start;
+use scriptrules::judge::State;
 
 // So many good lines went before, and whether there is more to be read.
 struct Counted {

@@ -2,9 +2,9 @@
 use crate::input::Got;
 use crate::input::read_some;
 use crate::output::complain;
-use imagefile::answer::FileRead;
-use imagefile::file::read;
-use imagefile::text::MAX_TEXT;
+use imagereader::read;
+use imagerules::answer::FileRead;
+use imagerules::text::MAX_TEXT;
 ghost use Prim.Native.Nat.{_≤_};
 ghost use lib.ListN.{length};
 

@@ -2,7 +2,7 @@
 // that breaks its rules, is missing or cannot be read gives the single line 0A, and the reason goes to standard error.
 //
 // Both files are judged before anything is printed, so the script is read twice, each time in chunks: any length of it takes the same
-// memory. What is printed is proved of crate `script`, whose calls do all the work; here they are fed.
+// memory. What is printed is proved of crate `scriptrunner`, whose calls do all the work; here they are fed.
 mod blame;
 mod image_file;
 mod input;
@@ -10,7 +10,7 @@ mod output;
 mod pass;
 mod script_file;
 
-use dataflash::layout::MAX_IMAGE_LENGTH;
+use flashrules::layout::MAX_IMAGE_LENGTH;
 
 fn main() {
     let mut bytes = [0u8; MAX_IMAGE_LENGTH];

@@ -1,7 +1,7 @@
 // What goes to standard output and standard error.
 use libc::STDERR_FILENO;
 use libc::STDOUT_FILENO;
-use script::reply::put_refusal;
+use scriptrunner::reply::put_refusal;
 
 // The single line 0A.
 pub(crate) fn refuse() {

@@ -4,18 +4,18 @@ use crate::input::Got;
 use crate::input::read_some;
 use crate::output::complain;
 use crate::output::print;
-use dataflash::layout::Layout;
-use gauge::state::power_on;
+use flashrules::layout::Layout;
 use gaugerules::state::BOOT_SEALED;
 use gaugerules::state::Gauge;
-use script::answer::Progress;
-use script::run::run;
+use gaugestate::state::power_on;
+use scriptrules::answer::Progress;
+use scriptrunner::run::run;
 ghost use mathlib.Core.Path.{_≡_};
 ghost use Prim.Native.Nat.{_+_, _-_, _≤_};
 ghost use lib.ListN.{length, take};
 ghost use Rattle.gaugerules.specs.Script.{device};
-ghost use Rattle.script.specs.Run.{left, run};
-ghost use Rattle.script.specs.Replay.{poweredOn};
+ghost use Rattle.scriptrules.specs.Run.{left, run};
+ghost use Rattle.scriptrules.specs.Replay.{poweredOn};
 ghost use Rattle.replay.specs.Held.{held, Longer, Turned, Passed};
 
 // The gauge, and which bytes of the buffer are text that has come and was not run.

@@ -1,13 +1,13 @@
 // script.hex, judged.
 use crate::blame::blame_line;
 use crate::input::read_some;
-use script::judge::State;
-use script::judge::end;
-use script::judge::feed;
-use script::judge::start;
+use scriptparser::end;
+use scriptparser::feed;
+use scriptparser::start;
+use scriptrules::judge::State;
 ghost use mathlib.Core.Path.{_≡_};
 ghost use lib.ListN.{take};
-ghost use Rattle.script.specs.Judge.{feed};
+ghost use Rattle.scriptrules.specs.Judge.{feed};
 
 // A descriptor, or -1.
 pub(crate) fn open() -> i32 {

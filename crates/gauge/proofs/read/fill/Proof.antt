@@ -22,12 +22,12 @@ fill-spec =
     (tie.spec
     Inv-loop
     μ-loop
-    (λ c. search (needs, fill-start))
+    (λ c. (search fill-start, search needs, search needs, search needs))
     (λ c κs. search needs)
     (λ c. search needs)
     (λ c. search needs)
     (λ c. search needs)
     (λ c. search needs)
-    (λ c. search (needs, fill-more))
+    (λ c. (search fill-more, search needs, search needs, search needs))
     (λ c. search needs)
     (λ c. search fill-end))

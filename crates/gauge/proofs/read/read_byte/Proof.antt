@@ -21,6 +21,7 @@ read-byte-spec =
     (λ c. search needs)
     (λ c. search (needs, window-inside))
     (λ c. search needs)
+    (λ c. search needs)
     (λ c κs. search needs)
     (λ c. search needs)
     (λ c κs. search needs)

@@ -1,9 +1,9 @@
 -- `gauge::read::read_error` meets its contract. Test by test, as the definition.
 -- Assumes nothing.
 use borrow.Author.Needs.{needs}
-use Rattle.dataflash.proofs.Picks.{picks, calls}
+use Rattle.flashrules.proofs.Picks.{picks, calls}
 use Rattle.gaugerules.specs.Read.{readError}
-use Rattle.gauge.proofs.Picks.{steps}
+use Rattle.gaugerules.proofs.Picks.{steps}
 use Rattle.gauge.proofs.read.read_error.Statement.{statement}
 use Rattle.gauge.proofs.read.read_error.Tie as tie
 

@@ -1,6 +1,6 @@
 -- `gauge::read::unless_sealed` meets its contract. Test by test, as the definition.
 -- Assumes nothing.
-use Rattle.dataflash.proofs.Picks.{picks}
+use Rattle.flashrules.proofs.Picks.{picks}
 use Rattle.gauge.proofs.read.unless_sealed.Statement.{statement}
 use Rattle.gauge.proofs.read.unless_sealed.Tie as tie
 

@@ -1,6 +1,6 @@
 -- `gauge::register::decode` meets its contract. Test by test, as the definition.
 -- Assumes nothing.
-use Rattle.dataflash.proofs.Picks.{picks}
+use Rattle.flashrules.proofs.Picks.{picks}
 use Rattle.gaugerules.specs.Register.{registerOf}
 use Rattle.gauge.proofs.register.decode.Statement.{statement}
 use Rattle.gauge.proofs.register.decode.Tie as tie

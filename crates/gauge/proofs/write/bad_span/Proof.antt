@@ -1,7 +1,7 @@
 -- `gauge::write::bad_span` meets its contract. Test by test, as the definition.
 -- Assumes nothing.
 use borrow.Author.Needs.{needs}
-use Rattle.dataflash.proofs.Picks.{picks}
+use Rattle.flashrules.proofs.Picks.{picks}
 use Rattle.gaugerules.specs.Write.{badSpan}
 use Rattle.gauge.proofs.WriteLaws.{span-long}
 use Rattle.gauge.proofs.write.bad_span.Statement.{statement}

@@ -1,9 +1,9 @@
 -- `gauge::write::call_error` meets its contract. Test by test, as the definition.
 -- Assumes nothing.
 use borrow.Author.Needs.{needs}
-use Rattle.dataflash.proofs.Picks.{picks, calls}
+use Rattle.flashrules.proofs.Picks.{picks, calls}
 use Rattle.gaugerules.specs.Write.{callError}
-use Rattle.gauge.proofs.Picks.{steps}
+use Rattle.gaugerules.proofs.Picks.{steps}
 use Rattle.gauge.proofs.write.call_error.Statement.{statement}
 use Rattle.gauge.proofs.write.call_error.Tie as tie
 

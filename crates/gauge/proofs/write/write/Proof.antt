@@ -1,7 +1,7 @@
 -- `gauge::write::write` meets its contract. By the error.
 -- Assumes nothing.
 use borrow.Author.Needs.{needs}
-use Rattle.gauge.proofs.WriteLaws.{writes-whole, writes-span, writes, writes-not}
+use Rattle.gauge.proofs.WriteLaws.{writes-span, writes, writes-not}
 use Rattle.gauge.proofs.write.write.Statement.{statement}
 use Rattle.gauge.proofs.write.write.Tie as tie
 
@@ -10,7 +10,7 @@ write-spec =
     tie.close
     (tie.spec
     (λ c κs. search needs)
-    (λ c κs. search (writes-whole, writes-span))
+    (λ c κs. search writes-span)
     (λ c. search needs)
     (λ c. search writes)
     (λ c. search writes-not))

@@ -1,7 +1,7 @@
 -- `gauge::write::write_byte` meets its contract. By the register.
 -- Assumes nothing.
 use borrow.Author.Needs.{needs}
-use Rattle.gauge.proofs.WriteLaws.{window-inside, at-register}
+use Rattle.gauge.proofs.WriteLaws.{at-register}
 use Rattle.gauge.proofs.write.write_byte.Statement.{statement}
 use Rattle.gauge.proofs.write.write_byte.Tie as tie
 
@@ -19,13 +19,12 @@ write-byte-spec =
     (λ c. search needs)
     (λ c κs. search needs)
     (λ c. search needs)
-    (λ c κs. search window-inside)
-    (λ c. search needs)
     (λ c κs. search needs)
     (λ c. search needs)
     (λ c κs. search needs)
     (λ c. search needs)
     (λ c κs. search needs)
+    (λ c. search needs)
     (λ c. search at-register)
     (λ c. search needs)
     (λ c. search at-register)

@@ -5,7 +5,7 @@ use mathlib.Core.Path.{_≡_}
 use Prim.Native.Nat.{_+_, _-_, _≤_}
 use lib.ListN.{length, drop}
 use Rattle.gaugerules.specs.Write.{writeBytes}
-use Rattle.gauge.proofs.WriteLaws.{fits-kept, run-end, run-more, run-stop}
+use Rattle.gauge.proofs.WriteLaws.{run-end, run-more, run-stop}
 use Rattle.gauge.proofs.write.write_bytes.Statement.{statement}
 use Rattle.gauge.proofs.write.write_bytes.Tie as tie
 
@@ -23,11 +23,11 @@ write-bytes-spec =
     μ-loop
     (λ c. search needs)
     (λ c. search needs)
-    (λ c κs. search fits-kept)
+    (λ c κs. search needs)
     (λ c. search needs)
     (λ c. search needs)
     (λ c. search needs)
-    (λ c. search (needs, run-more))
+    (λ c. (search run-more, search needs, search needs, search needs))
     (λ c. search needs)
     (λ c. search run-stop)
     (λ c. search needs)

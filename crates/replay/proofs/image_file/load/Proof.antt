@@ -1,7 +1,7 @@
 -- `replay::image_file::load` meets its contract. The image that was read is within the buffer.
 -- Assumes nothing.
 use borrow.Author.Needs.{needs}
-use Rattle.imagefile.proofs.FileLaws.{read-within}
+use Rattle.imagerules.proofs.CallLaws.{read-within}
 use Rattle.replay.proofs.image_file.load.Statement.{statement}
 use Rattle.replay.proofs.image_file.load.Tie as tie
 

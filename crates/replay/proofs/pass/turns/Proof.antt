@@ -6,7 +6,7 @@ use mathlib.Core.List.{[]}
 use Prim.Native.Nat.{_≤_}
 use lib.ListN.{length}
 use Rattle.gaugerules.specs.Script.{device}
-use Rattle.script.specs.Replay.{poweredOn}
+use Rattle.scriptrules.specs.Replay.{poweredOn}
 use Rattle.replay.specs.Held.{held, BySteps}
 use Rattle.replay.proofs.StepLaws.{turn-on, pass-start, pass-end, pass-last}
 use Rattle.replay.proofs.pass.turns.Statement.{statement}

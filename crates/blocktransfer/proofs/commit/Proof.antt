@@ -1,0 +1,20 @@
+-- `blocktransfer::commit` meets its contract. By the error.
+-- Assumes nothing.
+use borrow.Author.Needs.{needs}
+use Rattle.blocktransfer.proofs.TransferLaws.{commits, commits-not}
+use Rattle.blocktransfer.proofs.commit.Statement.{statement}
+use Rattle.blocktransfer.proofs.commit.Tie as tie
+
+pub commit-spec : {M : Type 1} → statement M
+commit-spec =
+    tie.close
+    (tie.spec
+    (λ c κs. search needs)
+    (λ c κs. search needs)
+    (λ c. search commits-not)
+    (λ c κs. search needs)
+    (λ c κs. search needs)
+    (λ c κs. search needs)
+    (λ c κs. search needs)
+    (λ c. search needs)
+    (λ c. search commits))

@@ -1,0 +1,17 @@
+-- `blocktransfer::is_protected` meets its contract. Test by test, as the definition.
+-- Assumes nothing.
+use borrow.Author.Needs.{needs}
+use Rattle.flashrules.proofs.Picks.{picks, calls}
+use Rattle.gaugerules.specs.Transfer.{isProtected}
+use Rattle.gaugerules.proofs.Picks.{steps}
+use Rattle.blocktransfer.proofs.is_protected.Statement.{statement}
+use Rattle.blocktransfer.proofs.is_protected.Tie as tie
+
+pub is-protected-spec : {M : Type 1} → statement M
+unfolding isProtected
+is-protected-spec =
+    tie.close
+    (tie.spec
+    (λ c κs. search needs)
+    (λ c. search (picks, calls, steps) depth 12)
+    (λ c. search (picks, calls, steps) depth 12))

@@ -1,0 +1,209 @@
+// Block transfer: what a byte at 0x3E, 0x3F, 0x40 to 0x5F, 0x60 and 0x61 does. A refused byte hands the gauge back as it was.
+use checksum::checksum;
+use dataflash::store_block;
+use flashrules::layout::INFO_CLASS;
+use flashrules::layout::Layout;
+use flashrules::lookup::BLOCK_SIZE;
+use flashrules::lookup::Lookup;
+use flashrules::lookup::UNKNOWN_BLOCK;
+use gaugerules::answer::INVALID_CONTROL;
+use gaugerules::answer::NOTHING_LOADED;
+use gaugerules::answer::PROTECTED_BLOCK;
+use gaugerules::answer::SEALED_REGISTER;
+use gaugerules::answer::Step;
+use gaugerules::answer::WRONG_CHECKSUM;
+use gaugerules::state::BLOCK_A;
+use gaugerules::state::CONTROL_INFO;
+use gaugerules::state::Gauge;
+use gaugerules::state::INFO_BLOCKS;
+use gaugerules::state::NO_BLOCK;
+use gaugerules::state::SEALED;
+use gaugestate::state::general_access;
+use gaugestate::state::join;
+use gaugestate::state::load;
+use gaugestate::state::loaded_block;
+use gaugestate::state::loaded_class;
+use gaugestate::state::unload;
+use layout::lookup::error_of;
+use layout::lookup::find_block;
+ghost use mathlib.Core.Path.{_≡_};
+ghost use Prim.Native.Nat.{_≤_};
+ghost use lib.ListN.{length, set};
+ghost use Rattle.checksum.specs.Checksum.{checksum};
+ghost use Rattle.flashrules.specs.Lookup.{blockSize};
+ghost use Rattle.flashrules.specs.Image.{loaded};
+ghost use Rattle.gaugerules.specs.State.{withWindow};
+ghost use Rattle.gaugerules.specs.Transfer.{accept, refuse, setClass, loadBlock, selectsInfo, selectBlock, isProtected, editError, edit, commitError, setControl};
+ghost use Rattle.gaugerules.specs.Write.{after, commit};
+
+fn accept(gauge: Gauge) -> Step
+    ensures { λ s. ⌜ s ≡ accept gauge ⌝ }
+{
+    Step { error: 0, gauge }
+}
+
+fn refuse(error: u8, gauge: Gauge) -> Step
+    ensures { λ s. ⌜ s ≡ refuse error gauge ⌝ }
+{
+    Step { error, gauge }
+}
+
+// 0x3E.
+pub fn set_class(gauge: Gauge, byte: u8) -> Step
+    ensures { λ s. ⌜ s ≡ setClass gauge byte ⌝ }
+{
+    if gauge.mode == SEALED {
+        return refuse(SEALED_REGISTER, gauge);
+    }
+    let mut next = gauge;
+    next.class = byte;
+    accept(unload(next))
+}
+
+// A block's bytes as loaded: zeros past the end of a short one.
+fn window_of(part: &[u8]) -> [u8; BLOCK_SIZE]
+    requires { ⌜ length (now part) ≤ blockSize ⌝ }
+    ensures { λ r. ⌜ r ≡ loaded (now (part .entry)) ⌝ }
+{
+    let mut window = [0u8; BLOCK_SIZE];
+    let mut k = 0;
+    while k < part.len() {
+        window[k] = part[k];
+        k += 1;
+    }
+    window
+}
+
+// A block of a class, as the lookup finds it.
+fn load_block(layout: Layout, image: &[u8], gauge: Gauge, byte: u8, class: u8, block: u8) -> Step
+    ensures { λ s. ⌜ s ≡ loadBlock layout (now (image .entry)) gauge byte class block ⌝ }
+{
+    let found = find_block(layout, image.len(), class, block);
+    let Lookup::Found { start, len } = found else {
+        return refuse(error_of(found), gauge);
+    };
+    let end = start + len;
+    let window = window_of(&image[start..end]);
+    accept(load(gauge, byte, class, block, window))
+}
+
+// Whether a byte names a manufacturer info block: 1, 2, 3 for A, B, C.
+fn selects_info(byte: u8) -> bool
+    ensures { λ r. ⌜ r ≡ selectsInfo byte ⌝ }
+{
+    if 1 <= byte {
+        return byte <= INFO_BLOCKS;
+    }
+    false
+}
+
+// 0x3F.
+pub fn select_block(layout: Layout, image: &[u8], gauge: Gauge, byte: u8) -> Step
+    ensures { λ s. ⌜ s ≡ selectBlock layout (now (image .entry)) gauge byte ⌝ }
+{
+    if general_access(gauge) {
+        return load_block(layout, image, gauge, byte, gauge.class, byte);
+    }
+    if selects_info(byte) {
+        return load_block(layout, image, gauge, byte, INFO_CLASS, byte - 1);
+    }
+    refuse(UNKNOWN_BLOCK, gauge)
+}
+
+// Block A of a sealed gauge.
+fn is_protected(gauge: Gauge) -> bool
+    ensures { λ r. ⌜ r ≡ isProtected gauge ⌝ }
+{
+    if gauge.mode == SEALED {
+        return gauge.loaded == join(INFO_CLASS, BLOCK_A);
+    }
+    false
+}
+
+// Why the window may not be changed, 0 where it may.
+fn edit_error(gauge: Gauge) -> u8
+    ensures { λ r. ⌜ r ≡ editError gauge ⌝ }
+{
+    if gauge.loaded == NO_BLOCK {
+        return NOTHING_LOADED;
+    }
+    if is_protected(gauge) {
+        return PROTECTED_BLOCK;
+    }
+    0
+}
+
+// Another byte in the window; it has no place past its end.
+fn replace_byte(gauge: Gauge, k: usize, byte: u8) -> Gauge
+    ensures { λ r. ⌜ r ≡ withWindow gauge (set (gauge .window) k byte) ⌝ }
+{
+    if k < BLOCK_SIZE {
+        let mut next = gauge;
+        next.window[k] = byte;
+        return next;
+    }
+    gauge
+}
+
+// 0x40 to 0x5F: the place k of the window.
+pub fn edit(gauge: Gauge, k: usize, byte: u8) -> Step
+    ensures { λ s. ⌜ s ≡ edit gauge k byte ⌝ }
+{
+    let error = edit_error(gauge);
+    if error == 0 {
+        return accept(replace_byte(gauge, k, byte));
+    }
+    refuse(error, gauge)
+}
+
+// The checksum of a window.
+fn window_sum(window: [u8; BLOCK_SIZE]) -> u8
+    ensures { λ r. ⌜ r ≡ checksum window ⌝ }
+{
+    checksum(&window)
+}
+
+// Why the window may not be committed by this byte, 0 where it may.
+fn commit_error(gauge: Gauge, byte: u8) -> u8
+    ensures { λ r. ⌜ r ≡ commitError gauge byte ⌝ }
+{
+    let error = edit_error(gauge);
+    if error == 0 {
+        let window = gauge.window;
+        if byte == window_sum(window) {
+            return 0;
+        }
+        return WRONG_CHECKSUM;
+    }
+    error
+}
+
+// 0x60.
+pub fn commit(layout: Layout, image: &mut [u8], gauge: Gauge, byte: u8) -> Step
+    ensures { λ s. ⌜ after s (now (image .exit)) ≡ commit layout (now (image .entry)) gauge byte ⌝ }
+{
+    let error = commit_error(gauge, byte);
+    if 0 < error {
+        return refuse(error, gauge);
+    }
+    let class = loaded_class(gauge);
+    let block = loaded_block(gauge);
+    let window = gauge.window;
+    store_block(layout, image, class, block, window);
+    accept(gauge)
+}
+
+// 0x61.
+pub fn set_control(gauge: Gauge, byte: u8) -> Step
+    ensures { λ s. ⌜ s ≡ setControl gauge byte ⌝ }
+{
+    if gauge.mode == SEALED {
+        return refuse(SEALED_REGISTER, gauge);
+    }
+    let mut next = gauge;
+    next.control = byte;
+    if byte <= CONTROL_INFO {
+        return accept(unload(next));
+    }
+    refuse(INVALID_CONTROL, gauge)
+}

@@ -1,0 +1,134 @@
+-- The bench cases of document 01 that are to be proved, as one table with one claim: `CasesHold`. It stands above every crate whose rules have a
+-- case in it, and speaks of those rules alone. Program `cases` runs the same cases: what it hands to the code is required to be in the table.
+-- Assumes nothing.
+use Prim.Native.Nat.{ℕ}
+use mathlib.Core.Path.{_≡_}
+use mathlib.Core.Bool.{Bool, true, false}
+use mathlib.Core.List.{List, [], _∷_, _++_}
+use lib.Dec.{eqb}
+use lib.ListN.{getD, replicate, set}
+use Rattle.checksum.specs.Checksum.{checksum, checksumAfter}
+use Rattle.flashrules.specs.Answer.{errorOf, lengthOf}
+use Rattle.flashrules.specs.Choice.{all, same}
+use Rattle.flashrules.specs.Layout.{size}
+use Rattle.flashrules.specs.Lookup.{findBlock}
+use Rattle.flashrules.specs.declared.layout.Layout.{Layout}
+use Rattle.gaugerules.specs.State.{powerOn}
+use Rattle.gaugerules.specs.Script.{Device, device}
+use Rattle.scriptrules.specs.Judge.{Judged, script, refused, judge}
+use Rattle.scriptrules.specs.Reply.{replies, afterFrames}
+use Rattle.casetable.specs.Lines.{linesText}
+
+-- ---- what a case is, and when it holds
+
+-- the layout of every case: P6's class of 33 bytes, with the two classes that every layout has. The paper's numbers are written out, so that the
+-- table holds the rules' names for them to the paper
+abbrev pub benchLayout : Layout
+benchLayout = record { count = 3; ids = 48 ∷ 58 ∷ 112 ∷ replicate 29 0; lengths = 33 ∷ 96 ∷ 28 ∷ replicate 29 0 }
+
+-- its image: zeros but for the first byte of class 48 and the unseal key, 14 04 72 36
+abbrev pub benchImage : ℕ → List ℕ
+benchImage first = first ∷ replicate 128 0 ++ (0x14 ∷ 0x04 ∷ 0x72 ∷ 0x36 ∷ replicate 24 0)
+
+pub data Case : Type 0 where
+  -- bytes, and their checksum
+  sum : List ℕ → ℕ → Case
+  -- a checksum, a byte of the block, the byte that it becomes, and the checksum by the short way
+  change : ℕ → ℕ → ℕ → ℕ → Case
+  -- a class, a block of it, and the error number and the length that its lookup answers
+  lookup : ℕ → ℕ → ℕ → ℕ → Case
+  -- the image's first byte, the home at power-on, a script and its output, and the one byte of the image after it that may be another: its
+  -- index and its value
+  session : ℕ → ℕ → List ℕ → List ℕ → ℕ → ℕ → Case
+
+abbrev pub prints : Device → Judged → List ℕ → List ℕ → Bool
+prints d (script fs) output image = all (same (replies benchLayout d fs) output ∷ same (afterFrames benchLayout d fs .image) image ∷ [])
+prints d refused output image = false
+
+unfoldable pub passes : Case → Bool
+passes (sum bs s) = eqb (checksum bs) s
+passes (change s old new t) = eqb (checksumAfter s old new) t
+passes (lookup i b e n) = let a = findBlock benchLayout (size benchLayout) i b in all (eqb (errorOf a) e ∷ eqb (lengthOf a) n ∷ [])
+passes (session first boot x output at byte) = prints (device (powerOn boot) (benchImage first)) (judge x) output (set (benchImage first) at byte)
+
+unfoldable pub every : List Case → Bool
+every [] = true
+every (c ∷ cs) = all (passes c ∷ every cs ∷ [])
+
+-- ---- the cases
+
+abbrev pub cases : List Case
+cases =
+    -- P1: "32 zero bytes: checksum 255."
+    sum (replicate 32 0) 255
+    -- P2: "32 bytes FF: 31."
+    ∷ sum (replicate 32 0xFF) 31
+    -- P3: "from P2, one FF becomes 00 by the short way: 30."
+    ∷ change 31 0xFF 0x00 30
+    -- P4: "old checksum FE, 01 becomes 02: FD."
+    ∷ change 0xFE 0x01 0x02 0xFD
+    -- P5: "read 0x7F, 1 byte: accepted; 2 bytes or 0 bytes: 1."
+    ∷ session 0 0
+    (linesText ((0x00 ∷ 0x7F ∷ 1 ∷ []) ∷ (0x00 ∷ 0x7F ∷ 2 ∷ []) ∷ (0x00 ∷ 0x7F ∷ 0 ∷ []) ∷ []))
+    (linesText ((0 ∷ 0x00 ∷ []) ∷ (1 ∷ []) ∷ (1 ∷ []) ∷ []))
+    0 0
+    -- P6: "class of 33 bytes: block 1 has one byte, block 2 is refused with 5."
+    ∷ lookup 48 1 0 1
+    ∷ lookup 48 2 5 0
+    -- P7: "in that block 1, 7 at 0x41 counts in the checksum and is not stored." 5 at 0x40 is, and the checksum without 7 is refused
+    ∷ session 0 1
+    (linesText
+    ((0x01 ∷ 0x61 ∷ 0 ∷ [])
+    ∷ (0x01 ∷ 0x3E ∷ 48 ∷ 1 ∷ [])
+    ∷ (0x01 ∷ 0x40 ∷ 5 ∷ 7 ∷ [])
+    ∷ (0x00 ∷ 0x60 ∷ 1 ∷ [])
+    ∷ (0x01 ∷ 0x60 ∷ 250 ∷ [])
+    ∷ (0x01 ∷ 0x60 ∷ 243 ∷ [])
+    ∷ []))
+    (linesText ((0 ∷ 1 ∷ []) ∷ (0 ∷ 2 ∷ []) ∷ (0 ∷ 2 ∷ []) ∷ (0 ∷ 243 ∷ []) ∷ (8 ∷ 0 ∷ []) ∷ (0 ∷ 1 ∷ []) ∷ []))
+    32 5
+    -- P8: "key above, words 0414 0414 3672: open; 0414 0000 3672: sealed." The status tells
+    ∷ session 0 0
+    (linesText
+    ((0x01 ∷ 0x00 ∷ 0x14 ∷ 0x04 ∷ [])
+    ∷ (0x01 ∷ 0x00 ∷ 0x14 ∷ 0x04 ∷ [])
+    ∷ (0x01 ∷ 0x00 ∷ 0x72 ∷ 0x36 ∷ [])
+    ∷ (0x01 ∷ 0x00 ∷ 0x00 ∷ 0x00 ∷ [])
+    ∷ (0x00 ∷ 0x00 ∷ 2 ∷ [])
+    ∷ []))
+    (linesText ((0 ∷ 2 ∷ []) ∷ (0 ∷ 2 ∷ []) ∷ (0 ∷ 2 ∷ []) ∷ (0 ∷ 2 ∷ []) ∷ (0 ∷ 0x00 ∷ 0x40 ∷ []) ∷ []))
+    0 0
+    ∷ session 0 0
+    (linesText
+    ((0x01 ∷ 0x00 ∷ 0x14 ∷ 0x04 ∷ [])
+    ∷ (0x01 ∷ 0x00 ∷ 0x00 ∷ 0x00 ∷ [])
+    ∷ (0x01 ∷ 0x00 ∷ 0x72 ∷ 0x36 ∷ [])
+    ∷ (0x01 ∷ 0x00 ∷ 0x00 ∷ 0x00 ∷ [])
+    ∷ (0x00 ∷ 0x00 ∷ 2 ∷ [])
+    ∷ []))
+    (linesText ((0 ∷ 2 ∷ []) ∷ (0 ∷ 2 ∷ []) ∷ (0 ∷ 2 ∷ []) ∷ (0 ∷ 2 ∷ []) ∷ (0 ∷ 0x00 ∷ 0x60 ∷ []) ∷ []))
+    0 0
+    -- P9: "sealed, block A, byte at 0x40: 7."
+    ∷ session 0 0
+    (linesText ((0x01 ∷ 0x3F ∷ 1 ∷ []) ∷ (0x01 ∷ 0x40 ∷ 9 ∷ []) ∷ []))
+    (linesText ((0 ∷ 1 ∷ []) ∷ (7 ∷ 0 ∷ []) ∷ []))
+    0 0
+    -- P10: "block of class 48 loaded, then 0x0020: window reads zero."
+    ∷ session 0x55 1
+    (linesText
+    ((0x01 ∷ 0x61 ∷ 0 ∷ [])
+    ∷ (0x01 ∷ 0x3E ∷ 48 ∷ 0 ∷ [])
+    ∷ (0x00 ∷ 0x40 ∷ 32 ∷ [])
+    ∷ (0x01 ∷ 0x00 ∷ 0x20 ∷ 0x00 ∷ [])
+    ∷ (0x00 ∷ 0x40 ∷ 32 ∷ [])
+    ∷ []))
+    (linesText ((0 ∷ 1 ∷ []) ∷ (0 ∷ 2 ∷ []) ∷ (0 ∷ 0x55 ∷ replicate 31 0) ∷ (0 ∷ 2 ∷ []) ∷ (0 ∷ replicate 32 0) ∷ []))
+    0 0x55
+    ∷ []
+
+abbrev pub CasesHold : Type 0
+CasesHold = every cases ≡ true
+
+-- case k of the table, counted from 0; past its end one that does not hold
+abbrev pub caseAt : ℕ → Case
+caseAt k = getD cases k (sum [] 0)

@@ -1,0 +1,2 @@
+pub mod ChecksumLaws
+pub mod Laws

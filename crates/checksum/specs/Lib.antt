@@ -1,0 +1,2 @@
+pub mod Checksum
+pub mod Laws

@@ -1,0 +1,152 @@
+// Control words: a byte at 0x01 makes one, and it is obeyed. The keys are read from the image at that moment.
+use dataflash::block;
+use flashrules::layout::KEY_CLASS;
+use flashrules::layout::Layout;
+use gaugerules::state::BOOT_SEALED;
+use gaugerules::state::FULL_ACCESS;
+use gaugerules::state::Gauge;
+use gaugerules::state::NO_WORD;
+use gaugerules::state::SEALED;
+use gaugerules::state::UNSEALED;
+use gaugestate::state::power_on;
+use gaugestate::state::wide;
+ghost use mathlib.Core.Path.{_≡_};
+ghost use Prim.Native.Nat.{_≤_};
+ghost use lib.ListN.{getD};
+ghost use Rattle.gaugerules.specs.Word.{status, fullAccessKey, isKey, keyWanted, modeOpened, waits, opened, keyWord, withStatus, obey};
+
+// The words that are never key words.
+const STATUS_WORD: u32 = 0x0000;
+
+const SEAL_WORD: u32 = 0x0020;
+
+const RESET_WORD: u32 = 0x0041;
+
+// What the status word leaves in Control().
+const STATUS_SEALED: u16 = 0x6000;
+
+const STATUS_UNSEALED: u16 = 0x4000;
+
+const STATUS_FULL_ACCESS: u16 = 0x0000;
+
+// The block of their class that holds the keys, and where they begin in it.
+const KEY_BLOCK: u8 = 0;
+
+const UNSEAL_KEY: usize = 0;
+
+const FULL_ACCESS_KEY: usize = 4;
+
+fn status(gauge: Gauge) -> u16
+    ensures { λ r. ⌜ r ≡ status gauge ⌝ }
+{
+    if gauge.mode == SEALED {
+        return STATUS_SEALED;
+    }
+    if gauge.mode == UNSEALED {
+        return STATUS_UNSEALED;
+    }
+    STATUS_FULL_ACCESS
+}
+
+// A byte of the keys, 0 past their end; those of an image that goes with its layout have no end there.
+fn key_byte(keys: &[u8], at: usize) -> u32
+    ensures { λ r. ⌜ r ≡ getD (now (keys .entry)) at 0 ⌝ }
+{
+    if at < keys.len() {
+        return wide(keys[at]);
+    }
+    0
+}
+
+// Whether two words as sent, low byte first, are the four bytes of a key that begins at `at`.
+fn is_key(keys: &[u8], at: usize, first: u32, second: u32) -> bool
+    requires { ⌜ at ≤ fullAccessKey ⌝ }
+    ensures { λ r. ⌜ r ≡ isKey (now (keys .entry)) at first second ⌝ }
+{
+    if key_byte(keys, at) == first % 256 {
+        if key_byte(keys, at + 1) == first / 256 {
+            if key_byte(keys, at + 2) == second % 256 {
+                return key_byte(keys, at + 3) == second / 256;
+            }
+        }
+    }
+    false
+}
+
+fn key_wanted(gauge: Gauge) -> usize
+    ensures { λ r. ⌜ (r ≡ keyWanted gauge) × (r ≤ fullAccessKey) ⌝ }
+{
+    if gauge.mode == SEALED {
+        UNSEAL_KEY
+    } else {
+        FULL_ACCESS_KEY
+    }
+}
+
+fn mode_opened(gauge: Gauge) -> u8
+    ensures { λ r. ⌜ r ≡ modeOpened gauge ⌝ }
+{
+    if gauge.mode == SEALED {
+        UNSEALED
+    } else {
+        FULL_ACCESS
+    }
+}
+
+fn waits(gauge: Gauge, word: u32) -> Gauge
+    ensures { λ r. ⌜ r ≡ waits gauge word ⌝ }
+{
+    let mut next = gauge;
+    next.result = 0;
+    next.pending = word;
+    next
+}
+
+fn opened(gauge: Gauge) -> Gauge
+    ensures { λ r. ⌜ r ≡ opened gauge ⌝ }
+{
+    let mut next = waits(gauge, NO_WORD);
+    next.mode = mode_opened(gauge);
+    next
+}
+
+fn key_word(layout: Layout, image: &[u8], gauge: Gauge, word: u32) -> Gauge
+    ensures { λ r. ⌜ r ≡ keyWord layout (now (image .entry)) gauge word ⌝ }
+{
+    if gauge.mode == FULL_ACCESS {
+        return waits(gauge, NO_WORD);
+    }
+    if gauge.pending == NO_WORD {
+        return waits(gauge, word);
+    }
+    let keys = block(layout, image, KEY_CLASS, KEY_BLOCK);
+    if is_key(keys, key_wanted(gauge), gauge.pending, word) {
+        return opened(gauge);
+    }
+    waits(gauge, word)
+}
+
+fn with_status(gauge: Gauge) -> Gauge
+    ensures { λ r. ⌜ r ≡ withStatus gauge ⌝ }
+{
+    let mut next = gauge;
+    next.pending = NO_WORD;
+    next.result = status(gauge);
+    next
+}
+
+// A control word is obeyed.
+pub fn obey(layout: Layout, image: &[u8], gauge: Gauge, word: u32) -> Gauge
+    ensures { λ r. ⌜ r ≡ obey layout (now (image .entry)) gauge word ⌝ }
+{
+    if word == STATUS_WORD {
+        return with_status(gauge);
+    }
+    if word == SEAL_WORD {
+        return power_on(BOOT_SEALED);
+    }
+    if word == RESET_WORD {
+        return power_on(gauge.boot);
+    }
+    key_word(layout, image, gauge, word)
+}

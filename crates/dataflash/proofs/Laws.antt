@@ -1,5 +1,0 @@
--- The claims of specs/Laws.antt, proved: what crates above cite. Each proof stands with the laws that it rests on.
--- Assumes nothing.
-pub use Rattle.dataflash.proofs.ChecksumLaws.{short-way, long-way-modulo, short-way-modulo, checksum-loaded}
-pub use Rattle.dataflash.proofs.LookupLaws.{block-inside, exists-found, blocks-apart, info-blocks, key-block}
-pub use Rattle.dataflash.proofs.ImageLaws.{block-length, loaded-length, store-length, store-here, store-outside, store-elsewhere}

@@ -1,7 +1,0 @@
-pub mod Choice
-pub mod Answer
-pub mod Layout
-pub mod Lookup
-pub mod Image
-pub mod Checksum
-pub mod Laws

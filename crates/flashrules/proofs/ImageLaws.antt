@@ -1,0 +1,164 @@
+-- Laws of the blocks of an image: their bytes as loaded, and what a store leaves, in the block and elsewhere.
+-- Assumes nothing.
+use Prim.Native.Nat.{ℕ, _+_, _-_, _≤_, _<_}
+use mathlib.Core.Path.{_≡_, sym, ap, _∙_}
+use mathlib.Core.Logic.{_⊎_, ⊎-elim}
+use mathlib.Core.List.{List, _++_, append-assoc}
+use native.Mathlib.Nat.{add-sub-cancel-left}
+use native.Mathlib.Numerals.{add-one}
+use native.Mathlib.Omega.{arith}
+use lib.Dec.{ltb}
+use lib.ListN.{length, take, drop, getD, set, length-take, length-drop, length-append, length-replicate, List·getD-append}
+use lib.Seq.{paste, paste-suc, length-paste, length-take-le, take-at, drop-at, getD-append-add, getD-take, getD-drop, ext-getD, length-paste-head}
+use borrow.Author.Tests.{ltb-true, ltb-false}
+use Rattle.checksum.proofs.ChecksumLaws.{total-append, total-zeros}
+use Rattle.flashrules.specs.Answer.{lengthOf}
+use Rattle.flashrules.specs.Lookup.{blockSize, findBlock}
+use Rattle.flashrules.specs.Image.{blockBytes, loaded, storeBlock}
+use Rattle.flashrules.specs.Laws.{ChecksumLoaded, BlockLength, LoadedLength, StoreLength, StoreHere, Within, StoreOutside, StoreElsewhere}
+use Rattle.flashrules.specs.declared.layout.Layout.{Layout}
+use Rattle.flashrules.specs.declared.lookup.Lookup.{Lookup}
+use Rattle.flashrules.proofs.Picks.{on-test, on-answer}
+use Rattle.flashrules.proofs.LookupLaws.{block-inside, blocks-apart}
+
+-- the loop that copies a window into an image: `e` is its invariant
+module _ (f f₀ w : List ℕ) (at k n : ℕ) (lw : length w ≡ blockSize) (most : n ≤ blockSize) (end : at + n ≤ length f₀) (e : f ≡ paste f₀ at w k) where
+  pub copy-more : k < n → set f (at + k) (getD w k 0) ≡ paste f₀ at w (k + 1)
+  copy-more h =
+      let hf : at + k < length f₀ = omega arith in
+      let hw : k < length w = omega arith in
+      rw (e, add-one, paste-suc)
+
+  pub copy-all : k ≤ n → n ≤ k → f ≡ paste f₀ at w n
+  copy-all h g = let q : k ≡ n = omega arith in rw q at e
+
+-- the part that `&image[s..s + k]` is
+pub part-is : (f : List ℕ) (s k : ℕ) → take (s + k - s) (drop s f) ≡ take k (drop s f)
+part-is f s k = ap (λ (n : ℕ). take n (drop s f)) (add-sub-cancel-left s k)
+
+-- ---- a part, and a list that is pasted into another
+
+part-length : (f : List ℕ) (s k : ℕ) → s + k ≤ length f → length (take k (drop s f)) ≡ k
+part-length f s k h = simp (length-take, length-drop) (omega arith)
+
+module _ (f w : List ℕ) (at n : ℕ) (end : at + n ≤ length f) (most : n ≤ length w) where
+  part-paste : take n (drop at (paste f at w n)) ≡ take n w
+  part-paste =
+      rw (append-assoc, drop-at (take at f) (take n w ++ drop (at + n) f) at (length-take-le at f (omega arith)))
+      (take-at (take n w) (drop (at + n) f) n (length-take-le n w most))
+
+  paste-below : (j : ℕ) → j < at → getD (paste f at w n) j 0 ≡ getD f j 0
+  paste-below j h =
+      let q : length (take at f) ≡ at = length-take-le at f (omega arith) in
+      rw (append-assoc, List·getD-append (take at f) (take n w ++ drop (at + n) f) 0 j (omega arith)) (getD-take at f j 0 h)
+
+  paste-above : (j : ℕ) → at + n ≤ j → getD (paste f at w n) j 0 ≡ getD f j 0
+  paste-above j h =
+      let q : length (take at f ++ take n w) ≡ at + n = length-paste-head f at w n (omega arith) most in
+      let e : j ≡ length (take at f ++ take n w) + (j - (at + n)) = omega arith in
+      let e′ : at + n + (j - (at + n)) ≡ j = omega arith in
+      ap (λ (m : ℕ). getD (paste f at w n) m 0) e ∙ getD-append-add (take at f ++ take n w) (drop (at + n) f) (j - (at + n)) 0
+      ∙ getD-drop (at + n) f (j - (at + n)) 0 ∙ ap (λ (m : ℕ). getD f m 0) e′
+
+  -- a part that lies apart from what was pasted
+  part-apart : (s k : ℕ) → s + k ≤ length f → (at + n ≤ s) ⊎ (s + k ≤ at) → take k (drop s (paste f at w n)) ≡ take k (drop s f)
+  part-apart s k h apart = ext-getD 0 _ _ (same ∙ sym (part-length f s k h)) (λ j g. at-j j (omega (arith, same)))
+    where
+      same : length (take k (drop s (paste f at w n))) ≡ k
+      same = part-length (paste f at w n) s k (omega (arith, length-paste f at w n end most))
+
+      at-j : (j : ℕ) → j < k → getD (take k (drop s (paste f at w n))) j 0 ≡ getD (take k (drop s f)) j 0
+      at-j j g =
+          rw (getD-take k (drop s (paste f at w n)) j 0 g, getD-take k (drop s f) j 0 g, getD-drop s (paste f at w n) j 0, getD-drop s f j 0)
+          (⊎-elim (λ (d : at + n ≤ s). paste-above (s + j) (omega arith)) (λ (d : s + k ≤ at). paste-below (s + j) (omega arith)) apart)
+
+-- ---- the claims. Each goes by the answer of the lookup
+
+pub block-length : BlockLength
+unfolding blockBytes
+block-length l image i b =
+    on-answer (findBlock l (length image) i b) (λ s k p. rw p (part-length image s k (block-inside l (length image) i b s k p .end))) (λ e p. rw p)
+
+pub loaded-length : LoadedLength
+unfolding loaded
+loaded-length l image i b =
+    let n = block-length l image i b in
+    on-answer (findBlock l (length image) i b)
+    (λ s k p.
+    let m = block-inside l (length image) i b s k p .most in
+    let q : length (blockBytes l image i b) ≡ k = rw p at n in
+    simp (length-append, length-replicate) (omega arith))
+    (λ e p.
+    let q : length (blockBytes l image i b) ≡ 0 = rw p at n in
+    simp (length-append, length-replicate) (omega arith))
+
+pub checksum-loaded : ChecksumLoaded
+unfolding loaded
+checksum-loaded bs = simp (total-append, total-zeros) (omega arith)
+
+-- a store into block b of class i, of a lookup that found it, and of one that was refused
+module _ (l : Layout) (image : List ℕ) (i b : ℕ) (w : List ℕ) (lw : length w ≡ blockSize) where
+  stored : (s k : ℕ) → findBlock l (length image) i b ≡ Lookup.Found s k → storeBlock l image i b w ≡ paste image s w k
+  unfolding storeBlock
+  stored s k p = rw p
+
+  not-stored : (e : ℕ) → findBlock l (length image) i b ≡ Lookup.Refused e → storeBlock l image i b w ≡ image
+  unfolding storeBlock
+  not-stored e p = rw p
+
+  module _ (s k : ℕ) (p : findBlock l (length image) i b ≡ Lookup.Found s k) where
+    end : s + k ≤ length image
+    end = block-inside l (length image) i b s k p .end
+
+    most : k ≤ length w
+    most = omega (arith, block-inside l (length image) i b s k p .most)
+
+  stored-length : length (storeBlock l image i b w) ≡ length image
+  stored-length =
+      on-answer (findBlock l (length image) i b) (λ s k p. rw (stored s k p) (length-paste image s w k (end s k p) (most s k p)))
+      (λ e p. rw (not-stored e p))
+
+  stored-here : blockBytes l (storeBlock l image i b w) i b ≡ take (lengthOf (findBlock l (length image) i b)) w
+  unfolding blockBytes
+  stored-here =
+      on-answer (findBlock l (length image) i b)
+      (λ s k p. rw (stored-length, p, stored s k p) (part-paste image w s k (end s k p) (most s k p)))
+      (λ e p. rw (stored-length, p))
+
+  stored-outside : (j : ℕ) → (Within (findBlock l (length image) i b) j → ⊥) → getD (storeBlock l image i b w) j 0 ≡ getD image j 0
+  stored-outside j h =
+      on-answer (findBlock l (length image) i b)
+      (λ s k p.
+      let g : (s ≤ j) × (j < s + k) → ⊥ = rw p at h in
+      rw (stored s k p)
+      (on-test (ltb j s) (λ t. paste-below image w s k (end s k p) (most s k p) j (ltb-true j s t))
+      (λ t.
+      on-test (ltb j (s + k)) (λ u. absurd (g (ltb-false j s t, ltb-true j (s + k) u)))
+      (λ u. paste-above image w s k (end s k p) (most s k p) j (ltb-false j (s + k) u)))))
+      (λ e p. rw (not-stored e p))
+
+  stored-elsewhere : (i′ b′ : ℕ) → ((i ≡ i′) × (b ≡ b′) → ⊥) → blockBytes l (storeBlock l image i b w) i′ b′ ≡ blockBytes l image i′ b′
+  unfolding blockBytes
+  stored-elsewhere i′ b′ d =
+      rw stored-length
+      (on-answer (findBlock l (length image) i b)
+      (λ s k p.
+      on-answer (findBlock l (length image) i′ b′)
+      (λ s′ k′ p′.
+      rw (p′, stored s k p)
+      (part-apart image w s k (end s k p) (most s k p) s′ k′ (block-inside l (length image) i′ b′ s′ k′ p′ .end)
+      (blocks-apart l (length image) i b s k i′ b′ s′ k′ p p′ d)))
+      (λ e p′. rw p′))
+      (λ e p. rw (not-stored e p)))
+
+pub store-length : StoreLength
+store-length = stored-length
+
+pub store-here : StoreHere
+store-here = stored-here
+
+pub store-outside : StoreOutside
+store-outside = stored-outside
+
+pub store-elsewhere : StoreElsewhere
+store-elsewhere = stored-elsewhere

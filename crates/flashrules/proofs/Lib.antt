@@ -1,0 +1,5 @@
+pub mod ImageLaws
+pub mod Laws
+pub mod LayoutLaws
+pub mod LookupLaws
+pub mod Picks

@@ -1,0 +1,88 @@
+-- What the definitions amount to, claim by claim. proofs/Laws.antt has a proof of each, under its name in small letters.
+-- Assumes nothing.
+use Prim.Native.Nat.{ℕ, _+_, _≤_, _<_}
+use mathlib.Core.Path.{_≡_}
+use mathlib.Core.Logic.{_⊎_}
+use mathlib.Core.Bool.{true, false}
+use mathlib.Core.List.{List}
+use lib.ListN.{length, getD, take}
+use Rattle.checksum.specs.Checksum.{checksum}
+use Rattle.flashrules.specs.Answer.{ifFound, startOf, lengthOf}
+use Rattle.flashrules.specs.Layout.{size, valid, fits, infoClass, keyClass, minKeyLength}
+use Rattle.flashrules.specs.Lookup.{blockSize, findBlock, blockExists}
+use Rattle.flashrules.specs.Image.{blockBytes, storeBlock, loaded}
+use Rattle.flashrules.specs.declared.layout.Layout.{Layout}
+use Rattle.flashrules.specs.declared.lookup.Lookup.{Lookup}
+
+-- ---- checksums
+
+-- the checksum of a short block as loaded is that of its own bytes
+abbrev pub ChecksumLoaded : Type 0
+ChecksumLoaded = (bs : List ℕ) → checksum (loaded bs) ≡ checksum bs
+
+-- ---- blocks of an image of n bytes
+
+-- a block has 1 to 32 bytes, and they lie inside the image
+pub record Inside (n s k : ℕ) : Type 0 where
+  pub some : 1 ≤ k
+  pub most : k ≤ blockSize
+  pub end : s + k ≤ n
+
+abbrev pub BlockInside : Type 0
+BlockInside = (l : Layout) (n i b s k : ℕ) → findBlock l n i b ≡ Lookup.Found s k → Inside n s k
+
+-- a block exists exactly if its lookup in an image of the layout finds it
+abbrev pub ExistsFound : Type 0
+ExistsFound = (l : Layout) (n i b : ℕ) → fits l n ≡ true → blockExists l i b ≡ ifFound (findBlock l n i b) (λ s k. true) (λ e. false)
+
+-- two blocks that differ in class or in number do not overlap
+abbrev pub BlocksApart : Type 0
+BlocksApart =
+    (l : Layout) (n i b s k i′ b′ s′ k′ : ℕ) → findBlock l n i b ≡ Lookup.Found s k → findBlock l n i′ b′ ≡ Lookup.Found s′ k′
+    → ((i ≡ i′) × (b ≡ b′) → ⊥) → (s + k ≤ s′) ⊎ (s′ + k′ ≤ s)
+
+-- a block is as long as its lookup says
+abbrev pub BlockLength : Type 0
+BlockLength = (l : Layout) (image : List ℕ) (i b : ℕ) → length (blockBytes l image i b) ≡ lengthOf (findBlock l (length image) i b)
+
+-- a block as loaded fills the window
+abbrev pub LoadedLength : Type 0
+LoadedLength = (l : Layout) (image : List ℕ) (i b : ℕ) → length (loaded (blockBytes l image i b)) ≡ blockSize
+
+-- ---- the image after a store of a window w into block b of class i
+
+-- it is as long as before
+abbrev pub StoreLength : Type 0
+StoreLength = (l : Layout) (image : List ℕ) (i b : ℕ) (w : List ℕ) → length w ≡ blockSize → length (storeBlock l image i b w) ≡ length image
+
+-- the block is the window's first bytes, as many as the block has
+abbrev pub StoreHere : Type 0
+StoreHere =
+    (l : Layout) (image : List ℕ) (i b : ℕ) (w : List ℕ) → length w ≡ blockSize
+    → blockBytes l (storeBlock l image i b w) i b ≡ take (lengthOf (findBlock l (length image) i b)) w
+
+-- byte j is one of those that a lookup found; none is where it was refused
+abbrev pub Within : Lookup → ℕ → Type 0
+Within a j = (startOf a ≤ j) × (j < startOf a + lengthOf a)
+
+-- every byte outside the block is what it was
+abbrev pub StoreOutside : Type 0
+StoreOutside =
+    (l : Layout) (image : List ℕ) (i b : ℕ) (w : List ℕ) → length w ≡ blockSize
+    → (j : ℕ) → (Within (findBlock l (length image) i b) j → ⊥) → getD (storeBlock l image i b w) j 0 ≡ getD image j 0
+
+-- so is every other block
+abbrev pub StoreElsewhere : Type 0
+StoreElsewhere =
+    (l : Layout) (image : List ℕ) (i b : ℕ) (w : List ℕ) → length w ≡ blockSize → (i′ b′ : ℕ) → ((i ≡ i′) × (b ≡ b′) → ⊥)
+    → blockBytes l (storeBlock l image i b w) i′ b′ ≡ blockBytes l image i′ b′
+
+-- ---- blocks that every valid layout has
+
+-- the three manufacturer info blocks, of 32 bytes each
+abbrev pub InfoBlocks : Type 0
+InfoBlocks = (l : Layout) (b : ℕ) → valid l ≡ true → b < 3 → lengthOf (findBlock l (size l) infoClass b) ≡ blockSize
+
+-- the block that holds the keys
+abbrev pub KeyBlock : Type 0
+KeyBlock = (l : Layout) → valid l ≡ true → minKeyLength ≤ lengthOf (findBlock l (size l) keyClass 0)

@@ -1,0 +1,18 @@
+-- `gaugestate::valid::loaded_valid` meets its contract. Test by test, as the definition.
+-- Assumes nothing.
+use borrow.Author.Needs.{needs}
+use Rattle.flashrules.proofs.Picks.{picks, calls}
+use Rattle.gaugestate.proofs.StateLaws.{exists-by}
+use Rattle.gaugestate.proofs.valid.loaded_valid.Statement.{statement}
+use Rattle.gaugestate.proofs.valid.loaded_valid.Tie as tie
+
+pub loaded-valid-spec : {M : Type 1} → statement M
+loaded-valid-spec =
+    tie.close
+    (tie.spec
+    (λ c κs. search needs)
+    (λ c. search (picks, calls, exists-by) depth 12)
+    (λ c κs. search needs)
+    (λ c κs. search needs)
+    (λ c κs. search needs)
+    (λ c. search (picks, calls, exists-by) depth 12))

@@ -1,0 +1,111 @@
+// The state of a gauge: power-on, and what the rules ask of a state or change in it.
+use flashrules::lookup::BLOCK_SIZE;
+use gaugerules::state::BOOT_OPEN;
+use gaugerules::state::BOOT_SEALED;
+use gaugerules::state::CONTROL_FLASH;
+use gaugerules::state::CONTROL_INFO;
+use gaugerules::state::FULL_ACCESS;
+use gaugerules::state::Gauge;
+use gaugerules::state::NO_BLOCK;
+use gaugerules::state::NO_WORD;
+use gaugerules::state::SEALED;
+ghost use mathlib.Core.Path.{_≡_};
+ghost use Prim.Native.Nat.{_+_, _*_, _<_};
+ghost use Rattle.gaugerules.specs.State.{bootMode, bootOf, powerOn, generalAccess, loadedClass, loadedBlock, unload, load};
+
+fn boot_mode(boot: u8) -> u8
+    ensures { λ r. ⌜ r ≡ bootMode boot ⌝ }
+{
+    if boot == BOOT_OPEN {
+        FULL_ACCESS
+    } else {
+        SEALED
+    }
+}
+
+fn boot_of(boot: u8) -> u8
+    ensures { λ r. ⌜ r ≡ bootOf boot ⌝ }
+{
+    if boot == BOOT_OPEN {
+        BOOT_OPEN
+    } else {
+        BOOT_SEALED
+    }
+}
+
+// A gauge just powered on: in full access for BOOT_OPEN, sealed for any other number.
+pub fn power_on(boot: u8) -> Gauge
+    ensures { λ r. ⌜ r ≡ powerOn boot ⌝ }
+{
+    Gauge {
+        mode: boot_mode(boot),
+        boot: boot_of(boot),
+        low: 0,
+        pending: NO_WORD,
+        result: 0,
+        control: CONTROL_INFO,
+        class: 0,
+        block: 0,
+        loaded: NO_BLOCK,
+        window: [0u8; BLOCK_SIZE],
+    }
+}
+
+// Not sealed, and the data flash selected.
+pub fn general_access(gauge: Gauge) -> bool
+    ensures { λ r. ⌜ r ≡ generalAccess gauge ⌝ }
+{
+    if gauge.mode == SEALED {
+        return false;
+    }
+    gauge.control == CONTROL_FLASH
+}
+
+// A number of 8 bits among wider ones.
+pub fn wide(x: u8) -> u32
+    ensures { λ r. ⌜ (r ≡ x) × (r < 256) ⌝ }
+{
+    x as u32
+}
+
+// Two bytes as one number: a control word, or a loaded block.
+pub fn join(high: u8, low: u8) -> u32
+    ensures { λ r. ⌜ r ≡ 256 * high + low ⌝ }
+{
+    256 * wide(high) + wide(low)
+}
+
+// The two parts of a loaded block.
+pub fn loaded_class(gauge: Gauge) -> u8
+    ensures { λ r. ⌜ r ≡ loadedClass gauge ⌝ }
+{
+    ((gauge.loaded / 256) % 256) as u8
+}
+
+pub fn loaded_block(gauge: Gauge) -> u8
+    ensures { λ r. ⌜ r ≡ loadedBlock gauge ⌝ }
+{
+    (gauge.loaded % 256) as u8
+}
+
+// Nothing is loaded any more.
+pub fn unload(gauge: Gauge) -> Gauge
+    ensures { λ r. ⌜ r ≡ unload gauge ⌝ }
+{
+    let mut next = gauge;
+    next.block = 0;
+    next.loaded = NO_BLOCK;
+    next.window = [0u8; BLOCK_SIZE];
+    next
+}
+
+// Block `block` of a class stands in the window, chosen by this byte.
+pub fn load(gauge: Gauge, byte: u8, class: u8, block: u8, window: [u8; BLOCK_SIZE]) -> Gauge
+    ensures { λ r. ⌜ r ≡ load gauge byte class block window ⌝ }
+{
+    let mut next = gauge;
+    next.block = byte;
+    next.loaded = join(class, block);
+    next.window = window;
+    next
+}

@@ -1,9 +1,0 @@
-pub mod TextLaws
-pub mod WriteLaws
-pub mod GuessLaws
-pub mod LineLaws
-pub mod ClassLaws
-pub mod BlockLaws
-pub mod RoundTrip
-pub mod FileLaws
-pub mod Laws

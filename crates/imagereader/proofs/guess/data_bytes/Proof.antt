@@ -1,0 +1,15 @@
+-- `imagereader::guess::data_bytes` meets its contract. By the tests.
+-- Assumes nothing.
+use borrow.Author.Needs.{needs}
+use Rattle.imagereader.proofs.GuessLaws.{data-none, data-some, data-long}
+use Rattle.imagereader.proofs.guess.data_bytes.Statement.{statement}
+use Rattle.imagereader.proofs.guess.data_bytes.Tie as tie
+
+pub data-bytes-spec : {M : Type 1} → statement M
+data-bytes-spec =
+    tie.close
+    (tie.spec
+    (λ c. search needs)
+    (λ c. (search data-none, search needs))
+    (λ c. (search data-some, search needs))
+    (λ c. (search data-long, search needs)))

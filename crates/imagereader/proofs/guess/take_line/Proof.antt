@@ -1,0 +1,25 @@
+-- `imagereader::guess::take_line` meets its contract. The part that is lent is the data.
+-- Assumes nothing.
+use borrow.Author.Needs.{needs}
+use Rattle.imagereader.proofs.GuessLaws.{class-at, bytes-at}
+use Rattle.imagereader.proofs.guess.take_line.Statement.{statement}
+use Rattle.imagereader.proofs.guess.take_line.Tie as tie
+
+pub take-line-spec : {M : Type 1} → statement M
+take-line-spec =
+    tie.close
+    (tie.spec
+    (λ c. search needs)
+    (λ c. search needs)
+    (λ c. search needs)
+    (λ c. search needs)
+    (λ c. search needs)
+    (λ c. search needs)
+    (λ c. search needs)
+    (λ c κs. search needs)
+    (λ c. search needs)
+    (λ c. search needs)
+    (λ c. search needs)
+    (λ c κs. search needs)
+    (λ c. search needs)
+    (λ c. search (class-at, bytes-at)))

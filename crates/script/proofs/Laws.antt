@@ -1,9 +1,0 @@
--- The claims of specs/Laws.antt, proved: what crates above cite. Each proof stands with the laws that it rests on.
--- Assumes nothing.
-pub use Rattle.script.proofs.JudgeLaws.{feed-chunks}
-pub use Rattle.script.proofs.ScriptLaws.{accepted-line, accepted-script}
-pub use Rattle.script.proofs.ReplyLaws.{reply-length, nothing-printed}
-pub use Rattle.script.proofs.AnswerLaws.{one-by-one}
-pub use Rattle.script.proofs.RunLaws.{run-frames}
-pub use Rattle.script.proofs.HostLaws.{host-prints}
-pub use Rattle.script.proofs.SilenceLaws.{silent-frames, silent-output}

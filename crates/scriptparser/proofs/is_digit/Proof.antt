@@ -1,0 +1,15 @@
+-- `scriptparser::is_digit` meets its contract. Test by test, as the definition.
+-- Assumes nothing.
+use Rattle.flashrules.proofs.Picks.{picks}
+use Rattle.scriptrules.specs.Judge.{isDigit}
+use Rattle.scriptparser.proofs.is_digit.Statement.{statement}
+use Rattle.scriptparser.proofs.is_digit.Tie as tie
+
+pub is-digit-spec : {M : Type 1} → statement M
+unfolding isDigit
+is-digit-spec =
+    tie.close
+    (tie.spec
+    (λ c. search picks depth 12)
+    (λ c. search picks depth 12)
+    (λ c. search picks depth 12))

@@ -1,0 +1,70 @@
+-- Laws of replies: how long one is, that none is empty, and frames one behind the other.
+-- Assumes nothing.
+use Prim.Native.Nat.{ℕ, _+_, _*_, _≤_}
+use mathlib.Core.Path.{_≡_, refl, sym, ap, _∙_}
+use mathlib.Core.List.{List, [], _∷_, _++_, append-assoc}
+use native.Mathlib.Omega.{arith}
+use lib.Dec.{eqb}
+use lib.ListN.{length, replicate, length-append, length-take}
+use borrow.Author.Tests.{eqb-true}
+use Rattle.hextext.specs.Hex.{hex}
+use Rattle.hextext.proofs.HexLaws.{hex-length}
+use Rattle.flashrules.specs.declared.layout.Layout.{Layout}
+use Rattle.flashrules.proofs.Picks.{on-test}
+use Rattle.imagerules.specs.Text.{lineFeed}
+use Rattle.imagerules.specs.File as image
+use Rattle.gaugerules.specs.Register.{registers}
+use Rattle.gaugerules.specs.Read.{seen, readError, read}
+use Rattle.gaugerules.specs.Script.{Device, reply}
+use Rattle.gaugerules.specs.declared.state.Gauge.{Gauge}
+use Rattle.gaugerules.proofs.ReadLaws.{read-free}
+use Rattle.scriptrules.specs.Frame.{Frame, writeFrame, readFrame}
+use Rattle.scriptrules.specs.Judge.{Judged, script, refused, judge}
+use Rattle.scriptrules.specs.Reply.{replyLine, replyText, afterFrame, replies, afterFrames}
+use Rattle.scriptrules.specs.Replay.{poweredOn, outputOf, replay}
+use Rattle.scriptrules.specs.Laws.{ReplyLength, NothingPrinted}
+use Rattle.scriptrules.proofs.ScriptLaws.{accepted-script}
+
+-- ---- one reply
+
+pub line-length : (bs : List ℕ) → length (replyLine bs) ≡ 2 * length bs + 1
+line-length bs = length-append (hex bs) (lineFeed ∷ []) ∙ rw (hex-length bs)
+
+-- a read takes no more bytes than it is lent room for
+pub read-accepts : (l : Layout) (image : List ℕ) (g : Gauge) (r n : ℕ) (buffer : List ℕ) → read l image g r n buffer .accepted ≤ length buffer
+unfolding read seen
+read-accepts l image g r n buffer =
+    on-test (eqb (readError l (length image) g r n (length buffer)) 0)
+    (λ e. rw e (read-free l (length image) g r n (length buffer) (eqb-true _ _ e) .1)) (λ e. rw e (omega arith))
+
+pub reply-length : ReplyLength
+unfolding replyText reply
+reply-length l d (writeFrame r bytes) = omega arith
+reply-length l d (readFrame r n) =
+    rw (line-length, length-take) (omega (arith, read-accepts l (d .image) (d .gauge) r n (replicate registers 0)))
+
+-- a reply has its line feed
+reply-some : (l : Layout) (d : Device) (f : Frame) → 1 ≤ length (replyText l d f)
+unfolding replyText
+reply-some l d f = rw line-length (omega arith)
+
+-- ---- frames one behind the other
+
+pub replies-append : (l : Layout) (d : Device) (fs gs : List Frame) → replies l d (fs ++ gs) ≡ replies l d fs ++ replies l (afterFrames l d fs) gs
+replies-append l d [] gs = refl
+replies-append l d (f ∷ fs) gs = rw (replies-append l (afterFrame l d f) fs gs, append-assoc)
+
+-- ---- what prints nothing
+
+replies-none : (l : Layout) (d : Device) (fs : List Frame) → replies l d fs ≡ [] → fs ≡ []
+replies-none l d [] e = refl
+replies-none l d (f ∷ fs) e = absurd (omega (arith, reply-some l d f, simp length-append at (ap length e)))
+
+pub nothing-printed : NothingPrinted
+unfolding replay
+nothing-printed x y e = by (image.judge x) (judge y) refl e
+  where
+    by : (i : image.Judged) (j : Judged) → judge y ≡ j → outputOf i j ≡ [] → y ≡ []
+    by (image.accepted l bytes) (script fs) p q = sym (accepted-script y [] .0 (rw (replies-none l (poweredOn bytes) fs q) at p) .text)
+    by (image.accepted l bytes) refused p q = absurd (omega (arith, ap length q))
+    by image.refused j p q = absurd (omega (arith, ap length q))

@@ -1,0 +1,47 @@
+-- Replies. Document 01, "The replay program": "Reply: number and count taken, or 00 and the bytes read, or the number alone for a refused read."
+-- Assumes nothing.
+use Prim.Native.Nat.{ℕ}
+use mathlib.Core.List.{List, [], _∷_, _++_}
+use lib.ListN.{take, replicate}
+use Rattle.hextext.specs.Hex.{hex}
+use Rattle.flashrules.specs.declared.layout.Layout.{Layout}
+use Rattle.imagerules.specs.Text.{lineFeed}
+use Rattle.gaugerules.specs.Register.{registers}
+use Rattle.gaugerules.specs.Read.{Seen}
+use Rattle.gaugerules.specs.Script.{Device, Call, toWrite, toRead, reply, next}
+use Rattle.scriptrules.specs.Frame.{Frame, writeFrame, readFrame}
+
+-- a frame as a call on the gauge; a read is lent a buffer for all registers, so 14 never comes
+abbrev pub callOf : Frame → Call
+callOf (writeFrame r bytes) = toWrite r bytes
+callOf (readFrame r n) = toRead r n (replicate registers 0)
+
+-- a refused read accepts 0, so its number is alone
+abbrev pub replyBytes : Frame → Seen → List ℕ
+replyBytes (writeFrame r bytes) s = s .error ∷ s .accepted ∷ []
+replyBytes (readFrame r n) s = s .error ∷ take (s .accepted) (s .buffer)
+
+-- the line of a reply's bytes
+abbrev pub replyLine : List ℕ → List ℕ
+replyLine bs = hex bs ++ (lineFeed ∷ [])
+
+-- "prints one line an answer"
+unfoldable pub replyText : Layout → Device → Frame → List ℕ
+replyText l d f = replyLine (replyBytes f (reply l d (callOf f)))
+
+unfoldable pub afterFrame : Layout → Device → Frame → Device
+afterFrame l d f = next l d (callOf f)
+
+-- no reply is longer: 00, 128 bytes and a line feed
+abbrev pub maxReply : ℕ
+maxReply = 259
+
+-- ---- frames one after the other
+
+abbrev pub replies : Layout → Device → List Frame → List ℕ
+replies l d [] = []
+replies l d (f ∷ fs) = replyText l d f ++ replies l (afterFrame l d f) fs
+
+abbrev pub afterFrames : Layout → Device → List Frame → Device
+afterFrames l d [] = d
+afterFrames l d (f ∷ fs) = afterFrames l (afterFrame l d f) fs

@@ -1,0 +1,22 @@
+-- `scriptrunner::reply::put_line` meets its contract. Two digits, the bytes behind them, the line feed.
+-- Assumes nothing.
+use borrow.Author.Needs.{needs}
+use Rattle.hextext.proofs.StoreLaws.{sets-out}
+use Rattle.scriptrunner.proofs.PutLaws.{line-put}
+use Rattle.scriptrunner.proofs.reply.put_line.Statement.{statement}
+use Rattle.scriptrunner.proofs.reply.put_line.Tie as tie
+
+pub put-line-spec : {M : Type 1} → statement M
+put-line-spec =
+    tie.close
+    (tie.spec
+    (λ c. search sets-out)
+    (λ c κs. search needs)
+    (λ c. search needs)
+    (λ c κs. search needs)
+    (λ c. search needs)
+    (λ c. search needs)
+    (λ c. search needs)
+    (λ c κs. search needs)
+    (λ c. search needs)
+    (λ c. search line-put))

@@ -1,0 +1,29 @@
+-- `scriptrunner::run::answer_frame` meets its contract. What stands in the array is the frame.
+-- Assumes nothing.
+use borrow.Author.Needs.{needs}
+use Rattle.scriptrunner.proofs.DecodeLaws.{decoded-read, decoded-write}
+use Rattle.scriptrunner.proofs.run.answer_frame.Statement.{statement}
+use Rattle.scriptrunner.proofs.run.answer_frame.Tie as tie
+
+pub answer-frame-spec : {M : Type 1} → statement M
+answer-frame-spec =
+    tie.close
+    (tie.spec
+    (λ c. search needs)
+    (λ c κs. search needs)
+    (λ c. search needs)
+    (λ c. search needs)
+    (λ c. search needs)
+    (λ c κs. search needs)
+    (λ c. search needs)
+    (λ c. search needs)
+    (λ c. (search (needs, decoded-read), search needs))
+    (λ c κs. search needs)
+    (λ c. search needs)
+    (λ c. search needs)
+    (λ c. search needs)
+    (λ c. search needs)
+    (λ c κs. search needs)
+    (λ c. search needs)
+    (λ c. search needs)
+    (λ c. (search (needs, decoded-write), search needs)))

@@ -1,0 +1,117 @@
+// Reply lines in a lent buffer.
+use flashrules::layout::Layout;
+use flashrules::lookup::INVALID_LAYOUT;
+use gauge::read::read;
+use gauge::write::write;
+use gaugerules::answer::Reading;
+use gaugerules::register::REGISTERS;
+use gaugerules::state::Gauge;
+use hextext::encode;
+use hextext::encode_byte;
+use hextext::store;
+use imagerules::text::LINE_FEED;
+use scriptrules::answer::Answered;
+ghost use mathlib.Core.Path.{_≡_};
+ghost use mathlib.Core.List.{[], _∷_};
+ghost use Prim.Native.Nat.{_%_, _≤_};
+ghost use lib.ListN.{length};
+ghost use lib.Seq.{sets};
+ghost use Rattle.gaugerules.specs.Register.{registers};
+ghost use Rattle.gaugerules.specs.Read.{seen, read};
+ghost use Rattle.gaugerules.specs.Script.{device};
+ghost use Rattle.scriptrules.specs.Frame.{writeFrame, readFrame};
+ghost use Rattle.scriptrules.specs.Reply.{replyLine, maxReply};
+ghost use Rattle.scriptrules.specs.Replay.{refusal};
+ghost use Rattle.scriptrules.specs.Run.{left, answerFrame};
+
+// The longest reply: 00, 128 bytes and a line feed.
+pub(crate) const MAX_REPLY: usize = 2 * (1 + REGISTERS) + 1;
+
+// A byte and bytes as a line, from an index on.
+fn put_line(first: u8, rest: &[u8], buffer: &mut [u8], at: usize)
+    requires { ⌜ length (now rest) ≤ registers ⌝ }
+    ensures { λ _. ⌜ now (buffer .exit) ≡ sets (now (buffer .entry)) at (replyLine (first ∷ now (rest .entry))) ⌝ }
+{
+    if buffer.len() <= at {
+        return;
+    }
+    encode_byte(first, buffer, at);
+    encode(rest, buffer, at + 2);
+    store(LINE_FEED, buffer, at + 2 + 2 * rest.len());
+}
+
+// The single line for a file that breaks its rules, at the front of the buffer.
+pub fn put_refusal(buffer: &mut [u8])
+    ensures { λ _. ⌜ now (buffer .exit) ≡ sets (now (buffer .entry)) 0 refusal ⌝ }
+{
+    put_line(INVALID_LAYOUT, &[], buffer, 0);
+}
+
+fn low_byte(n: usize) -> u8
+    ensures { λ r. ⌜ r ≡ n % 256 ⌝ }
+{
+    (n % 256) as u8
+}
+
+// A write frame is run, and replied to.
+pub(crate) fn answer_write(
+    layout: Layout,
+    image: &mut [u8],
+    gauge: Gauge,
+    register: u8,
+    bytes: &[u8],
+    buffer: &mut [u8],
+    at: usize,
+) -> Answered
+    ensures { λ r. ⌜ left r (now (image .exit)) (now (buffer .exit)) ≡ answerFrame layout (device gauge (now (image .entry))) (writeFrame register (now (bytes .entry))) (now (buffer .entry)) at ⌝ }
+    ensures { λ r. ⌜ r .length ≤ maxReply ⌝ }
+{
+    let written = write(layout, image, gauge, register, bytes);
+    let accepted = low_byte(written.accepted);
+    put_line(written.error, &[accepted], buffer, at);
+    let after = written.gauge;
+    Answered {
+        error: 0,
+        gauge: after,
+        length: 5,
+    }
+}
+
+// The registers that a read frame asks for; no more than the buffer has bytes.
+fn read_registers(
+    layout: Layout,
+    image: &[u8],
+    gauge: Gauge,
+    register: u8,
+    count: u8,
+    values: &mut [u8],
+) -> Reading
+    ensures { λ r. ⌜ seen r (now (values .exit)) ≡ read layout (now (image .entry)) gauge register count (now (values .entry)) ⌝ }
+    ensures { λ r. ⌜ r .accepted ≤ length (now (values .entry)) ⌝ }
+{
+    read(layout, image, gauge, register, count as usize, values)
+}
+
+// A read frame is run, and replied to.
+pub(crate) fn answer_read(
+    layout: Layout,
+    image: &[u8],
+    gauge: Gauge,
+    register: u8,
+    count: u8,
+    buffer: &mut [u8],
+    at: usize,
+) -> Answered
+    ensures { λ r. ⌜ left r (now (image .entry)) (now (buffer .exit)) ≡ answerFrame layout (device gauge (now (image .entry))) (readFrame register count) (now (buffer .entry)) at ⌝ }
+    ensures { λ r. ⌜ r .length ≤ maxReply ⌝ }
+{
+    let mut values = [0u8; REGISTERS];
+    let reading = read_registers(layout, image, gauge, register, count, &mut values);
+    let n = reading.accepted;
+    put_line(reading.error, &values[0..n], buffer, at);
+    Answered {
+        error: 0,
+        gauge,
+        length: 3 + 2 * n,
+    }
+}

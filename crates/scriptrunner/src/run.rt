@@ -1,0 +1,165 @@
+// Frames are run on a gauge and its image, and their replies put into a lent buffer: a line at a time, or all whole lines of a text.
+use crate::reply::MAX_REPLY;
+use crate::reply::answer_read;
+use crate::reply::answer_write;
+use flashrules::layout::Layout;
+use flashrules::lookup::INVALID_LAYOUT;
+use flashrules::lookup::SHORT_BUFFER;
+use gaugerules::state::Gauge;
+use hextext::decode;
+use imagerules::text::LINE_FEED;
+use scriptparser::is_frame;
+use scriptrules::answer::Answered;
+use scriptrules::answer::Progress;
+use scriptrules::judge::MAX_FRAME;
+use scriptrules::judge::READ;
+ghost use mathlib.Core.Path.{_≡_};
+ghost use mathlib.Core.Bool.{true};
+ghost use Prim.Native.Nat.{_-_, _≤_};
+ghost use lib.ListN.{length};
+ghost use Rattle.hextext.specs.Hex.{unhex};
+ghost use Rattle.gaugerules.specs.Script.{device};
+ghost use Rattle.scriptrules.specs.Frame.{maxFrame, frameOf};
+ghost use Rattle.scriptrules.specs.Judge.{isFrame};
+ghost use Rattle.scriptrules.specs.Reply.{maxReply};
+ghost use Rattle.scriptrules.specs.Run.{left, lineError, answered, answerFrame, answer, run};
+
+// Why a line is not run, 0 where it is; the buffer has so many bytes.
+fn line_error(line: &[u8], buffer_len: usize, at: usize) -> u8
+    ensures { λ r. ⌜ r ≡ lineError (now (line .entry)) («buffer_len» - at) ⌝ }
+{
+    if is_frame(line) {
+        if buffer_len <= at {
+            return SHORT_BUFFER;
+        }
+        if buffer_len - at < MAX_REPLY {
+            return SHORT_BUFFER;
+        }
+        return 0;
+    }
+    INVALID_LAYOUT
+}
+
+// How many bytes a frame's line stands for.
+fn frame_length(line: &[u8]) -> usize
+    requires { ⌜ isFrame (now line) ≡ true ⌝ }
+    ensures { λ r. ⌜ (r ≡ length (unhex (now (line .entry)))) × (2 ≤ r) × (r ≤ maxFrame) ⌝ }
+{
+    line.len() / 2
+}
+
+// A frame is run, and replied to.
+fn answer_frame(
+    layout: Layout,
+    image: &mut [u8],
+    gauge: Gauge,
+    line: &[u8],
+    buffer: &mut [u8],
+    at: usize,
+) -> Answered
+    requires { ⌜ isFrame (now line) ≡ true ⌝ }
+    ensures { λ r. ⌜ left r (now (image .exit)) (now (buffer .exit)) ≡ answerFrame layout (device gauge (now (image .entry))) (frameOf (now (line .entry))) (now (buffer .entry)) at ⌝ }
+    ensures { λ r. ⌜ r .length ≤ maxReply ⌝ }
+{
+    let mut frame = [0u8; MAX_FRAME];
+    decode(line, &mut frame, 0);
+    if frame[0] == READ {
+        return answer_read(layout, &image[..], gauge, frame[1], frame[2], buffer, at);
+    }
+    let end = frame_length(line);
+    answer_write(layout, image, gauge, frame[1], &frame[2..end], buffer, at)
+}
+
+// One line, without its line feed, is run; its reply is put into the buffer from an index on. A refused line alters nothing.
+pub fn answer(
+    layout: Layout,
+    image: &mut [u8],
+    gauge: Gauge,
+    line: &[u8],
+    buffer: &mut [u8],
+    at: usize,
+) -> Answered
+    ensures { λ r. ⌜ left r (now (image .exit)) (now (buffer .exit)) ≡ answer layout (now (image .entry)) gauge (now (line .entry)) (now (buffer .entry)) at ⌝ }
+    ensures { λ r. ⌜ r .length ≤ length (now (buffer .entry)) - at ⌝ }
+{
+    let error = line_error(line, buffer.len(), at);
+    if error == 0 {
+        return answer_frame(layout, image, gauge, line, buffer, at);
+    }
+    Answered {
+        error,
+        gauge,
+        length: 0,
+    }
+}
+
+// One line more is run, behind replies that take up so much of the buffer; its length here is that of all of them.
+fn answer_behind(
+    layout: Layout,
+    image: &mut [u8],
+    gauge: Gauge,
+    line: &[u8],
+    buffer: &mut [u8],
+    used: usize,
+) -> Answered
+    requires { ⌜ used ≤ length (now buffer) ⌝ }
+    ensures { λ r. ⌜ left (answered (r .error) (r .gauge) (r .length - used)) (now (image .exit)) (now (buffer .exit)) ≡ answer layout (now (image .entry)) gauge (now (line .entry)) (now (buffer .entry)) used ⌝ }
+    ensures { λ r. ⌜ (used ≤ r .length) × (r .length ≤ length (now (buffer .entry))) ⌝ }
+{
+    let answered = answer(layout, image, gauge, line, buffer, used);
+    let after = answered.gauge;
+    Answered {
+        error: answered.error,
+        gauge: after,
+        length: used + answered.length,
+    }
+}
+
+// The whole lines of a text are run, until one is refused; their replies are put at the front of the buffer. 14 says that the buffer has
+// no room for one more: the caller goes on behind `next` with another.
+pub fn run(
+    layout: Layout,
+    image: &mut [u8],
+    gauge: Gauge,
+    text: &[u8],
+    buffer: &mut [u8],
+) -> Progress
+    ensures { λ r. ⌜ left r (now (image .exit)) (now (buffer .exit)) ≡ run layout (now (image .entry)) gauge (now (text .entry)) (now (buffer .entry)) ⌝ }
+    ensures { λ r. ⌜ (r .next ≤ length (now (text .entry))) × (r .length ≤ length (now (buffer .entry))) ⌝ }
+{
+    let mut after = gauge;
+    let mut from = 0;
+    let mut out = 0;
+    while from < text.len() {
+        let end = bytes::scan::find(text, from, text.len(), LINE_FEED);
+        if text.len() <= end {
+            return Progress {
+                error: 0,
+                gauge: after,
+                next: from,
+                length: out,
+            };
+        }
+        let next = end + 1;
+        let answered = answer_behind(layout, image, after, &text[from..end], buffer, out);
+        let error = answered.error;
+        after = answered.gauge;
+        if error == 0 {
+            out = answered.length;
+            from = next;
+        } else {
+            return Progress {
+                error,
+                gauge: after,
+                next: from,
+                length: out,
+            };
+        }
+    }
+    Progress {
+        error: 0,
+        gauge: after,
+        next: from,
+        length: out,
+    }
+}

@@ -7,14 +7,14 @@ use gaugestate::state::power_on;
 use scriptrunner::run::run;
 ghost use mathlib.Core.Path.{_≡_};
 ghost use Prim.Native.Nat.{_<_};
-ghost use Rattle.casetable.specs.Cases.{session, caseAt};
+ghost use Rattle.casetable.specs.Cases.{benchSize, session, caseAt};
 
 // Room for the replies of any case.
 const ROOM: usize = 1024;
 
-// Whether the script was run whole, printed this and left the image with this byte at this index.
+// Runs a script and prints its output; whether it is this, and the image after it has this byte at this index and is else as it was.
 fn runs_so(first: u8, boot: u8, script: &[u8], output: &[u8], at: usize, byte: u8) -> bool
-    requires { ⌜ at < 157 ⌝ }
+    requires { ⌜ at < benchSize ⌝ }
 {
     let mut image = bench_image(first);
     let mut after = bench_image(first);
@@ -45,7 +45,7 @@ pub(crate) fn session(
     at: usize,
     byte: u8,
 )
-    requires { ⌜ (caseAt k ≡ session first boot (now script) (now output) at byte) × (at < 157) ⌝ }
+    requires { ⌜ (caseAt k ≡ session first boot (now script) (now output) at byte) × (at < benchSize) ⌝ }
 {
     show_text(name);
     show_text(b"\n");

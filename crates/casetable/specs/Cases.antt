@@ -30,6 +30,9 @@ benchLayout = record { count = 3; ids = 48 ∷ 58 ∷ 112 ∷ replicate 29 0; le
 abbrev pub benchImage : ℕ → List ℕ
 benchImage first = first ∷ replicate 128 0 ++ (0x14 ∷ 0x04 ∷ 0x72 ∷ 0x36 ∷ replicate 24 0)
 
+abbrev pub benchSize : ℕ
+benchSize = 157
+
 pub data Case : Type 0 where
   -- bytes, and their checksum
   sum : List ℕ → ℕ → Case

@@ -30,6 +30,7 @@ benchLayout = record { count = 3; ids = 48 ∷ 58 ∷ 112 ∷ replicate 29 0; le
 abbrev pub benchImage : ℕ → List ℕ
 benchImage first = first ∷ replicate 128 0 ++ (0x14 ∷ 0x04 ∷ 0x72 ∷ 0x36 ∷ replicate 24 0)
 
+-- how many bytes it has
 abbrev pub benchSize : ℕ
 benchSize = 157
 
@@ -44,6 +45,7 @@ pub data Case : Type 0 where
   -- index and its value
   session : ℕ → ℕ → List ℕ → List ℕ → ℕ → ℕ → Case
 
+-- a script, on this device, prints this output and leaves this image
 abbrev pub prints : Device → Judged → List ℕ → List ℕ → Bool
 prints d (script fs) output image = all (same (replies benchLayout d fs) output ∷ same (afterFrames benchLayout d fs .image) image ∷ [])
 prints d refused output image = false

@@ -1,4 +1,6 @@
 // What a lookup of a class or a block answers.
+
+// A block has so many bytes, the last one of a class perhaps fewer.
 pub const BLOCK_SIZE: usize = 32;
 
 // Document 01's error numbers of a lookup.

@@ -22,6 +22,7 @@ use Rattle.imagerules.specs.Guess.{width, classByte, lineBytes, nextLine
 use Rattle.imagerules.specs.File.{holds, Judged, accepted, refused, judge, checkError, readJudged, read, write}
 use Rattle.imagerules.specs.Laws.{Fitting, inUse, cleared, WrittenRead, IsText, AcceptedText, TextOfSome, CheckAccepts, OneOnly, WriteThenRead, ReadThenWrite}
 use Rattle.imagerules.proofs.ClassLaws.{guess-text}
+use Rattle.imagerules.proofs.CallLaws.{wrote}
 
 -- ---- a cleared layout has the same classes
 
@@ -156,11 +157,9 @@ one-only l l′ image image′ t t′ e =
 -- ---- as to the calls and their buffers
 
 pub write-then-read : WriteThenRead
-unfolding write
 write-then-read l image buffer t e =
-    let x = textOf l image in
-    on-test (ltb (length buffer) (length x)) (λ u. let z : _≡_ {A = ℕ} shortBuffer 0 = rw (t .fit, u) at e in absurd (omega arith))
-    (λ u. rw (t .fit, u, sets-start buffer x (ltb-false (length buffer) (length x) u)) (written-read l image t))
+    let w = write l image buffer in
+    rw (wrote l image buffer (w .buffer) (w .answer) refl e .text) (written-read l image t)
 
 pub read-then-write : ReadThenWrite
 unfolding read

@@ -4,7 +4,7 @@ use borrow.Author.Needs.{needs}
 use mathlib.Core.Path.{_≡_}
 use Prim.Native.Nat.{_-_, _≤_}
 use lib.ListN.{length}
-use lib.Seq.{paste, paste-zero}
+use lib.Seq.{paste}
 use Rattle.flashrules.specs.Lookup.{blockSize}
 use Rattle.gaugerules.specs.State.{zeroWindow}
 use Rattle.blocktransfer.proofs.TransferLaws.{window-more, window-all}
@@ -23,7 +23,7 @@ window-of-spec =
     (tie.spec
     Inv-loop
     μ-loop
-    (λ c. search (needs, paste-zero))
+    (λ c. search needs)
     (λ c. search needs)
     (λ c. search needs)
     (λ c. search needs)

@@ -11,7 +11,7 @@ loaded-valid-spec =
     tie.close
     (tie.spec
     (λ c κs. search needs)
-    (λ c. search (picks, calls, exists-by) depth 12)
+    (λ c. search (picks, calls) depth 12)
     (λ c κs. search needs)
     (λ c κs. search needs)
     (λ c κs. search needs)

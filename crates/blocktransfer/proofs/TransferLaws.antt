@@ -1,29 +1,32 @@
 -- Laws of block transfer: a block as loaded, and what loads, edits and commits put together from calls.
--- Assumes nothing.
 use Prim.Native.Nat.{ℕ, zero, suc, _+_, _-_, _≤_, _<_}
 use mathlib.Core.Path.{_≡_, sym, ap, _∙_}
-use mathlib.Core.Bool.{Bool, true, false, cond}
-use mathlib.Core.List.{List}
+use mathlib.Core.Bool.{Bool, true, false, cond, not}
+use mathlib.Core.List.{List, [], _∷_}
 use native.Mathlib.Nat.{sub-zero}
 use native.Mathlib.Numerals.{add-one}
 use native.Mathlib.Omega.{arith}
-use lib.Dec.{leb}
-use lib.ListN.{length, take, drop, getD, set, replicate, length-take}
+use lib.Dec.{eqb, leb}
+use lib.ListN.{length, drop, getD, set, replicate}
 use lib.Seq.{paste, paste-suc, set-out, take-all}
 use borrow.Author.Tests.{eq-eqb, ne-eqb, leb-true}
-use Rattle.flashrules.specs.Answer.{errorOf}
+use Rattle.checksum.specs.Checksum.{checksum}
+use Rattle.flashrules.specs.Error.{wrongChecksum}
+use Rattle.flashrules.specs.Outcome.{outcome}
+use Rattle.flashrules.specs.Answer.{errorOf, lengthOf}
 use Rattle.flashrules.specs.Lookup.{blockSize, findBlock}
-use Rattle.flashrules.specs.Image.{blockBytes, storeBlock, loaded}
+use Rattle.flashrules.specs.Image.{blockBytes, storeBlock, asLoaded}
 use Rattle.flashrules.specs.declared.layout.Layout.{Layout}
 use Rattle.flashrules.specs.declared.lookup.Lookup.{Lookup}
-use Rattle.flashrules.proofs.ImageLaws.{part-is}
-use Rattle.flashrules.proofs.Picks.{all-first}
-use Rattle.flashrules.proofs.LookupLaws.{found-most}
-use Rattle.gaugerules.specs.State.{infoBlocks, zeroWindow, loadedClass, loadedBlock, withWindow, load}
-use Rattle.gaugerules.specs.Transfer.{accept, refuse, loadBlock, selectsInfo, commitError, committed}
-use Rattle.gaugerules.specs.Write.{after, commit}
+use Rattle.flashrules.proofs.Laws.{block-inside, block-length}
+use Rattle.flashrules.proofs.RefusalLaws.{error-first, error-behind}
+use Rattle.flashrules.proofs.Picks.{and-first, on-answer}
+use Rattle.gaugerules.specs.State.{infoBlocks, zeroWindow, loadedOf, withWindow, load}
+use Rattle.gaugerules.specs.Transfer.{accept, refuse, loadBlock, selectsInfo, editTests, editError, commitError, committed}
+use Rattle.gaugerules.specs.Write.{commit}
 use Rattle.gaugerules.specs.declared.state.Gauge.{Gauge}
-use Rattle.gaugerules.specs.declared.answer.Step.{Step}
+use Rattle.gaugerules.specs.declared.state.Loaded.{Loaded}
+use Rattle.gaugerules.specs.declared.answer.ByteWritten.{ByteWritten}
 
 drop-replicate : (n k : ℕ) → drop k (replicate n 0) ≡ replicate {A = ℕ} (n - k) 0
 drop-replicate n zero = rw sub-zero
@@ -38,33 +41,42 @@ module _ (part w : List ℕ) (k : ℕ) (most : length part ≤ blockSize) (e : w
       let f : 0 + k < length zeroWindow = omega arith in
       ap (λ (n : ℕ). set w n (getD part k 0)) z ∙ rw (e, add-one) (paste-suc zeroWindow 0 part k 0 f h)
 
-  pub window-all : k ≤ length part → length part ≤ k → w ≡ loaded part
-  unfolding loaded
+  pub window-all : k ≤ length part → length part ≤ k → w ≡ asLoaded part
+  unfolding asLoaded
   window-all h g =
       let q : k ≡ length part = omega arith in
       let z : 0 + length part ≡ length part = omega arith in
       rw (e, q, take-all (length part) part (omega arith), z, drop-replicate blockSize (length part))
 
--- ---- a load
+-- ---- a load: `part` is what the call handed out
 
-pub part-most : (l : Layout) (image : List ℕ) (i b s k : ℕ) (a : Lookup) → a ≡ findBlock l (length image) i b → a ≡ Lookup.Found s k
-    → length (take (s + k - s) (drop s image)) ≤ blockSize
-part-most l image i b s k a p q = let m = found-most l (length image) i b s k a p q in simp length-take (omega arith)
+module _ (l : Layout) (image part : List ℕ) (i b : ℕ) (p : part ≡ blockBytes l image i b) where
+  length-is : (a : Lookup) → findBlock l (length image) i b ≡ a → length part ≡ lengthOf a
+  length-is a q = rw p (block-length l image i b ∙ rw q)
 
-module _ (l : Layout) (image : List ℕ) (g : Gauge) (byte i b : ℕ) (s : Step) (a : Lookup) (p : a ≡ findBlock l (length image) i b) where
-  pub block-loads : (start n : ℕ) (w : List ℕ) (r : Gauge) → a ≡ Lookup.Found start n → w ≡ loaded (take (start + n - start) (drop start image))
-      → r ≡ load g byte i b w → s ≡ accept r → s ≡ loadBlock l image g byte i b
-  unfolding loadBlock blockBytes
-  block-loads start n w r f q x e =
-      let z : w ≡ loaded (take n (drop start image)) = rw (part-is image start n) at q in
-      rw (← p, f, ← z, ← x) e
+  pub part-most : length part ≤ blockSize
+  part-most =
+      on-answer (findBlock l (length image) i b)
+      (λ t k q. omega (arith, length-is _ q, block-inside l (length image) i b t k q .most)) (λ e q. omega (arith, length-is _ q))
 
-  pub block-refused : (e k : ℕ) → a ≡ Lookup.Refused e → k ≡ errorOf a → s ≡ refuse k g → s ≡ loadBlock l image g byte i b
-  unfolding loadBlock
-  block-refused e k f q x = let z : k ≡ e = rw f at q in rw (← p, f, ← z) x
+  module _ (g : Gauge) (byte : ℕ) (s : ByteWritten) where
+    -- what has bytes was found
+    pub block-loads : (length part ≡ 0 → ⊥) → (w : List ℕ) (r : Gauge) → w ≡ asLoaded part → r ≡ load g byte i b w → s ≡ accept r
+        → s ≡ loadBlock l image g byte i b
+    unfolding loadBlock
+    block-loads h w r q x e =
+        on-answer (findBlock l (length image) i b) (λ t k f. rw f (e ∙ rw (x, q, p))) (λ k f. absurd (h (length-is _ f)))
+
+    pub block-refused : length part ≡ 0 → (a : Lookup) (k : ℕ) → a ≡ findBlock l (length image) i b → k ≡ errorOf a → s ≡ refuse k g
+        → s ≡ loadBlock l image g byte i b
+    unfolding loadBlock
+    block-refused h a k f q x =
+        on-answer (findBlock l (length image) i b)
+        (λ t j u. absurd (omega (arith, length-is _ u, block-inside l (length image) i b t j u .some)))
+        (λ e u. let z : k ≡ e = rw (f, u) at q in rw (u, ← z) x)
 
 pub info-above : (byte : ℕ) (t : Bool) → t ≡ selectsInfo byte → t ≡ true → 1 ≤ byte
-info-above byte t p q = leb-true 1 byte (all-first (leb 1 byte) (cond (leb byte infoBlocks) true false) (sym p ∙ q))
+info-above byte t p q = leb-true 1 byte (and-first (leb 1 byte) (cond (leb byte infoBlocks) true false) (sym p ∙ q))
 
 -- ---- an edit
 
@@ -73,11 +85,27 @@ no-place g k byte w h = rw (set-out (g .window) k byte (omega arith))
 
 -- ---- a commit
 
-module _ (l : Layout) (image to : List ℕ) (g : Gauge) (byte e i b : ℕ) (s : Step) (p : e ≡ commitError g byte) where
-  pub commits : e ≤ 0 → i ≡ loadedClass g → b ≡ loadedBlock g → to ≡ storeBlock l image i b (g .window) → s ≡ accept g → after s to ≡ commit l image g byte
-  unfolding commit committed
-  commits q x y z t = rw (t, z, x, y, ← p, eq-eqb e 0 (omega arith))
+-- the checksum's test comes behind those of an edit
+module _ (l : Layout) (image : List ℕ) (g : Gauge) (byte e : ℕ) (p : e ≡ editError g) where
+  pub edit-first : (e ≡ 0 → ⊥) → e ≡ commitError l image g byte
+  unfolding commitError editError
+  edit-first h = error-first (editTests g) ((not (eqb byte (checksum (g .window))), wrongChecksum) ∷ []) (omega arith, (omega arith, tt)) e p h
 
-  pub commits-not : 0 < e → s ≡ refuse e g → after s image ≡ commit l image g byte
+  pub sum-behind : e ≡ 0 → (n : ℕ) → n ≡ cond (not (eqb byte (checksum (g .window)))) wrongChecksum 0 → n ≡ commitError l image g byte
+  unfolding commitError editError
+  sum-behind h n q = error-behind (editTests g) ((not (eqb byte (checksum (g .window))), wrongChecksum) ∷ []) (omega arith, (omega arith, tt)) e p h n q
+
+module _ (l : Layout) (image to : List ℕ) (g : Gauge) (byte e : ℕ) (s : ByteWritten) (p : e ≡ commitError l image g byte) where
+  pub commits : e ≤ 0 → (a : Loaded) (i b : ℕ) → a ≡ loadedOf (g .loaded) → a ≡ Loaded.Block i b → to ≡ storeBlock l image i b (g .window) → s ≡ accept g
+      → outcome s to ≡ commit l image g byte
+  unfolding commit committed
+  commits q a i b x y z t = rw (t, z, ← p, eq-eqb e 0 (omega arith), ← x, y)
+
+  -- nothing is loaded, so nothing is stored
+  pub commits-none : e ≤ 0 → (a : Loaded) → a ≡ loadedOf (g .loaded) → a ≡ Loaded.None → s ≡ accept g → outcome s image ≡ commit l image g byte
+  unfolding commit committed
+  commits-none q a x y t = rw (t, ← p, eq-eqb e 0 (omega arith), ← x, y)
+
+  pub commits-not : 0 < e → s ≡ refuse e g → outcome s image ≡ commit l image g byte
   unfolding commit
   commits-not q t = rw (t, ← p, ne-eqb e 0 (λ z. omega arith))

@@ -1,28 +1,25 @@
 // Block transfer: what a byte at 0x3E, 0x3F, 0x40 to 0x5F, 0x60 and 0x61 does. A refused byte hands the gauge back as it was.
 use checksum::checksum;
 use dataflash::store_block;
+use flashrules::error::INVALID_CONTROL;
+use flashrules::error::NOTHING_LOADED;
+use flashrules::error::PROTECTED_BLOCK;
+use flashrules::error::SEALED_REGISTER;
+use flashrules::error::UNKNOWN_BLOCK;
+use flashrules::error::WRONG_CHECKSUM;
 use flashrules::layout::INFO_CLASS;
 use flashrules::layout::Layout;
 use flashrules::lookup::BLOCK_SIZE;
-use flashrules::lookup::Lookup;
-use flashrules::lookup::UNKNOWN_BLOCK;
-use gaugerules::answer::INVALID_CONTROL;
-use gaugerules::answer::NOTHING_LOADED;
-use gaugerules::answer::PROTECTED_BLOCK;
-use gaugerules::answer::SEALED_REGISTER;
-use gaugerules::answer::Step;
-use gaugerules::answer::WRONG_CHECKSUM;
+use gaugerules::answer::ByteWritten;
 use gaugerules::state::BLOCK_A;
 use gaugerules::state::CONTROL_INFO;
 use gaugerules::state::Gauge;
 use gaugerules::state::INFO_BLOCKS;
-use gaugerules::state::NO_BLOCK;
+use gaugerules::state::Loaded;
 use gaugerules::state::SEALED;
 use gaugestate::state::general_access;
-use gaugestate::state::join;
 use gaugestate::state::load;
-use gaugestate::state::loaded_block;
-use gaugestate::state::loaded_class;
+use gaugestate::state::loaded;
 use gaugestate::state::unload;
 use layout::lookup::error_of;
 use layout::lookup::find_block;
@@ -30,26 +27,27 @@ ghost use mathlib.Core.Path.{_≡_};
 ghost use Prim.Native.Nat.{_≤_};
 ghost use lib.ListN.{length, set};
 ghost use Rattle.checksum.specs.Checksum.{checksum};
+ghost use Rattle.flashrules.specs.Outcome.{outcome};
 ghost use Rattle.flashrules.specs.Lookup.{blockSize};
-ghost use Rattle.flashrules.specs.Image.{loaded};
+ghost use Rattle.flashrules.specs.Image.{asLoaded};
 ghost use Rattle.gaugerules.specs.State.{withWindow};
 ghost use Rattle.gaugerules.specs.Transfer.{accept, refuse, setClass, loadBlock, selectsInfo, selectBlock, isProtected, editError, edit, commitError, setControl};
-ghost use Rattle.gaugerules.specs.Write.{after, commit};
+ghost use Rattle.gaugerules.specs.Write.{commit};
 
-fn accept(gauge: Gauge) -> Step
+fn accept(gauge: Gauge) -> ByteWritten
     ensures { λ s. ⌜ s ≡ accept gauge ⌝ }
 {
-    Step { error: 0, gauge }
+    ByteWritten { error: 0, gauge }
 }
 
-fn refuse(error: u8, gauge: Gauge) -> Step
+fn refuse(error: u8, gauge: Gauge) -> ByteWritten
     ensures { λ s. ⌜ s ≡ refuse error gauge ⌝ }
 {
-    Step { error, gauge }
+    ByteWritten { error, gauge }
 }
 
 // 0x3E.
-pub fn set_class(gauge: Gauge, byte: u8) -> Step
+pub fn set_class(gauge: Gauge, byte: u8) -> ByteWritten
     ensures { λ s. ⌜ s ≡ setClass gauge byte ⌝ }
 {
     if gauge.mode == SEALED {
@@ -63,7 +61,7 @@ pub fn set_class(gauge: Gauge, byte: u8) -> Step
 // A block's bytes as loaded: zeros past the end of a short one.
 fn window_of(part: &[u8]) -> [u8; BLOCK_SIZE]
     requires { ⌜ length (now part) ≤ blockSize ⌝ }
-    ensures { λ r. ⌜ r ≡ loaded (now (part .entry)) ⌝ }
+    ensures { λ r. ⌜ r ≡ asLoaded (now (part .entry)) ⌝ }
 {
     let mut window = [0u8; BLOCK_SIZE];
     let mut k = 0;
@@ -74,17 +72,23 @@ fn window_of(part: &[u8]) -> [u8; BLOCK_SIZE]
     window
 }
 
-// A block of a class, as the lookup finds it.
-fn load_block(layout: Layout, image: &[u8], gauge: Gauge, byte: u8, class: u8, block: u8) -> Step
+// A block of a class. Its part is empty exactly where the lookup is refused, which then gives the number.
+fn load_block(
+    layout: Layout,
+    image: &[u8],
+    gauge: Gauge,
+    byte: u8,
+    class: u8,
+    block: u8,
+) -> ByteWritten
     ensures { λ s. ⌜ s ≡ loadBlock layout (now (image .entry)) gauge byte class block ⌝ }
 {
-    let found = find_block(layout, image.len(), class, block);
-    let Lookup::Found { start, len } = found else {
+    let part = dataflash::block(layout, image, class, block);
+    if part.len() == 0 {
+        let found = find_block(layout, image.len(), class, block);
         return refuse(error_of(found), gauge);
-    };
-    let end = start + len;
-    let window = window_of(&image[start..end]);
-    accept(load(gauge, byte, class, block, window))
+    }
+    accept(load(gauge, byte, class, block, window_of(part)))
 }
 
 // Whether a byte names a manufacturer info block: 1, 2, 3 for A, B, C.
@@ -98,7 +102,7 @@ fn selects_info(byte: u8) -> bool
 }
 
 // 0x3F.
-pub fn select_block(layout: Layout, image: &[u8], gauge: Gauge, byte: u8) -> Step
+pub fn select_block(layout: Layout, image: &[u8], gauge: Gauge, byte: u8) -> ByteWritten
     ensures { λ s. ⌜ s ≡ selectBlock layout (now (image .entry)) gauge byte ⌝ }
 {
     if general_access(gauge) {
@@ -115,7 +119,12 @@ fn is_protected(gauge: Gauge) -> bool
     ensures { λ r. ⌜ r ≡ isProtected gauge ⌝ }
 {
     if gauge.mode == SEALED {
-        return gauge.loaded == join(INFO_CLASS, BLOCK_A);
+        let Loaded::Block { class, block } = loaded(gauge) else {
+            return false;
+        };
+        if class == INFO_CLASS {
+            return block == BLOCK_A;
+        }
     }
     false
 }
@@ -124,9 +133,9 @@ fn is_protected(gauge: Gauge) -> bool
 fn edit_error(gauge: Gauge) -> u8
     ensures { λ r. ⌜ r ≡ editError gauge ⌝ }
 {
-    if gauge.loaded == NO_BLOCK {
+    let Loaded::Block { class: _, block: _ } = loaded(gauge) else {
         return NOTHING_LOADED;
-    }
+    };
     if is_protected(gauge) {
         return PROTECTED_BLOCK;
     }
@@ -146,7 +155,7 @@ fn replace_byte(gauge: Gauge, k: usize, byte: u8) -> Gauge
 }
 
 // 0x40 to 0x5F: the place k of the window.
-pub fn edit(gauge: Gauge, k: usize, byte: u8) -> Step
+pub fn edit(gauge: Gauge, k: usize, byte: u8) -> ByteWritten
     ensures { λ s. ⌜ s ≡ edit gauge k byte ⌝ }
 {
     let error = edit_error(gauge);
@@ -164,8 +173,8 @@ fn window_sum(window: [u8; BLOCK_SIZE]) -> u8
 }
 
 // Why the window may not be committed by this byte, 0 where it may.
-fn commit_error(gauge: Gauge, byte: u8) -> u8
-    ensures { λ r. ⌜ r ≡ commitError gauge byte ⌝ }
+fn commit_error(layout: Layout, image: &[u8], gauge: Gauge, byte: u8) -> u8
+    ensures { λ r. ⌜ r ≡ commitError layout (now (image .entry)) gauge byte ⌝ }
 {
     let error = edit_error(gauge);
     if error == 0 {
@@ -179,22 +188,23 @@ fn commit_error(gauge: Gauge, byte: u8) -> u8
 }
 
 // 0x60.
-pub fn commit(layout: Layout, image: &mut [u8], gauge: Gauge, byte: u8) -> Step
-    ensures { λ s. ⌜ after s (now (image .exit)) ≡ commit layout (now (image .entry)) gauge byte ⌝ }
+pub fn commit(layout: Layout, image: &mut [u8], gauge: Gauge, byte: u8) -> ByteWritten
+    ensures { λ s. ⌜ outcome s (now (image .exit)) ≡ commit layout (now (image .entry)) gauge byte ⌝ }
 {
-    let error = commit_error(gauge, byte);
+    let error = commit_error(layout, &image[..], gauge, byte);
     if 0 < error {
         return refuse(error, gauge);
     }
-    let class = loaded_class(gauge);
-    let block = loaded_block(gauge);
+    let Loaded::Block { class, block } = loaded(gauge) else {
+        return accept(gauge);
+    };
     let window = gauge.window;
     store_block(layout, image, class, block, window);
     accept(gauge)
 }
 
 // 0x61.
-pub fn set_control(gauge: Gauge, byte: u8) -> Step
+pub fn set_control(gauge: Gauge, byte: u8) -> ByteWritten
     ensures { λ s. ⌜ s ≡ setControl gauge byte ⌝ }
 {
     if gauge.mode == SEALED {

@@ -1,6 +1,6 @@
--- The bench cases of document 01 that are to be proved, as one table with one claim: `CasesHold`. It stands above every crate whose rules have a
--- case in it, and speaks of those rules alone. Program `cases` runs the same cases: what it hands to the code is required to be in the table.
--- Assumes nothing.
+-- The bench cases of document 01 that are to be proved, as one table with one claim: `CasesHold`. It stands above
+-- every crate whose rules have a case in it, and speaks of those rules alone. Program `cases` runs the same cases:
+-- what it hands to the code is required to be in the table.
 use Prim.Native.Nat.{ℕ}
 use mathlib.Core.Path.{_≡_}
 use mathlib.Core.Bool.{Bool, true, false}
@@ -9,20 +9,20 @@ use lib.Dec.{eqb}
 use lib.ListN.{getD, replicate, set}
 use Rattle.checksum.specs.Checksum.{checksum, checksumAfter}
 use Rattle.flashrules.specs.Answer.{errorOf, lengthOf}
-use Rattle.flashrules.specs.Choice.{all, same}
+use Rattle.flashrules.specs.Choice.{and, same}
 use Rattle.flashrules.specs.Layout.{size}
 use Rattle.flashrules.specs.Lookup.{findBlock}
 use Rattle.flashrules.specs.declared.layout.Layout.{Layout}
 use Rattle.gaugerules.specs.State.{powerOn}
 use Rattle.gaugerules.specs.Script.{Device, device}
-use Rattle.scriptrules.specs.Judge.{Judged, script, refused, judge}
+use Rattle.scriptrules.specs.Parser.{ParsedScript, script, noScript, parseScript}
 use Rattle.scriptrules.specs.Reply.{replies, afterFrames}
 use Rattle.casetable.specs.Lines.{linesText}
 
 -- ---- what a case is, and when it holds
 
--- the layout of every case: P6's class of 33 bytes, with the two classes that every layout has. The paper's numbers are written out, so that the
--- table holds the rules' names for them to the paper
+-- the layout of every case: P6's class of 33 bytes, with the two classes that every layout has. The paper's numbers
+-- are written out, so that the table holds the rules' names for them to the paper
 abbrev pub benchLayout : Layout
 benchLayout = record { count = 3; ids = 48 ∷ 58 ∷ 112 ∷ replicate 29 0; lengths = 33 ∷ 96 ∷ 28 ∷ replicate 29 0 }
 
@@ -41,24 +41,28 @@ pub data Case : Type 0 where
   change : ℕ → ℕ → ℕ → ℕ → Case
   -- a class, a block of it, and the error number and the length that its lookup answers
   lookup : ℕ → ℕ → ℕ → ℕ → Case
-  -- the image's first byte, the home at power-on, a script and its output, and the one byte of the image after it that may be another: its
-  -- index and its value
+  -- the image's first byte, the home at power-on, a script and its output, and the one byte of the image after it
+  -- that may be another: its index and its value
   session : ℕ → ℕ → List ℕ → List ℕ → ℕ → ℕ → Case
 
 -- a script, on this device, prints this output and leaves this image
-abbrev pub prints : Device → Judged → List ℕ → List ℕ → Bool
-prints d (script fs) output image = all (same (replies benchLayout d fs) output ∷ same (afterFrames benchLayout d fs .image) image ∷ [])
-prints d refused output image = false
+abbrev pub prints : Device → ParsedScript → List ℕ → List ℕ → Bool
+prints d (script fs) output image =
+    and (same (replies benchLayout d fs) output ∷ same (afterFrames benchLayout d fs .image) image ∷ [])
+prints d noScript output image = false
 
 unfoldable pub passes : Case → Bool
 passes (sum bs s) = eqb (checksum bs) s
 passes (change s old new t) = eqb (checksumAfter s old new) t
-passes (lookup i b e n) = let a = findBlock benchLayout (size benchLayout) i b in all (eqb (errorOf a) e ∷ eqb (lengthOf a) n ∷ [])
-passes (session first boot x output at byte) = prints (device (powerOn boot) (benchImage first)) (judge x) output (set (benchImage first) at byte)
+passes (lookup i b e n) =
+    let a = findBlock benchLayout (size benchLayout) i b in
+    and (eqb (errorOf a) e ∷ eqb (lengthOf a) n ∷ [])
+passes (session first boot x output at byte) =
+    prints (device (powerOn boot) (benchImage first)) (parseScript x) output (set (benchImage first) at byte)
 
 unfoldable pub every : List Case → Bool
 every [] = true
-every (c ∷ cs) = all (passes c ∷ every cs ∷ [])
+every (c ∷ cs) = and (passes c ∷ every cs ∷ [])
 
 -- ---- the cases
 
@@ -80,7 +84,8 @@ cases =
     -- P6: "class of 33 bytes: block 1 has one byte, block 2 is refused with 5."
     ∷ lookup 48 1 0 1
     ∷ lookup 48 2 5 0
-    -- P7: "in that block 1, 7 at 0x41 counts in the checksum and is not stored." 5 at 0x40 is, and the checksum without 7 is refused
+    -- P7: "in that block 1, 7 at 0x41 counts in the checksum and is not stored." 5 at 0x40 is, and the checksum
+    -- without 7 is refused
     ∷ session 0 1
     (linesText
     ((0x01 ∷ 0x61 ∷ 0 ∷ [])

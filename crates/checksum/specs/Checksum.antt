@@ -1,5 +1,4 @@
 -- The checksum of bytes, the long way and the short way. Document 01, "Checksum".
--- Assumes nothing.
 use Prim.Native.Nat.{ℕ, _+_, _-_, _%_}
 use mathlib.Core.List.{List, [], _∷_}
 
@@ -12,7 +11,8 @@ total (b ∷ bs) = b + total bs
 abbrev pub checksum : List ℕ → ℕ
 checksum bs = 255 - total bs % 256
 
--- 01: "t = (255 - old checksum - old byte) mod 256 with t never negative": with 256 more it is not, and the remainder is the same
+-- 01: "t = (255 - old checksum - old byte) mod 256 with t never negative": with 256 more it is not, and the remainder
+-- is the same
 abbrev pub withoutOld : ℕ → ℕ → ℕ
 withoutOld sum old = (255 + 256 - sum - old) % 256
 

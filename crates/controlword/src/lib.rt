@@ -8,12 +8,11 @@ use gaugerules::state::Gauge;
 use gaugerules::state::NO_WORD;
 use gaugerules::state::SEALED;
 use gaugerules::state::UNSEALED;
-use gaugestate::state::power_on;
-use gaugestate::state::wide;
+use gaugestate::state::restart;
 ghost use mathlib.Core.Path.{_≡_};
-ghost use Prim.Native.Nat.{_≤_};
-ghost use lib.ListN.{getD};
-ghost use Rattle.gaugerules.specs.Word.{status, fullAccessKey, isKey, keyWanted, modeOpened, waits, opened, keyWord, withStatus, obey};
+ghost use Prim.Native.Nat.{_≤_, _<_};
+ghost use lib.ListN.{length, getD};
+ghost use Rattle.gaugerules.specs.Word.{word, status, fullAccessKey, isKey, keyWanted, modeOpened, waits, opened, keyWord, withStatus, obey};
 
 // The words that are never key words.
 const STATUS_WORD: u32 = 0x0000;
@@ -36,6 +35,8 @@ const UNSEAL_KEY: usize = 0;
 
 const FULL_ACCESS_KEY: usize = 4;
 
+const KEY_LENGTH: usize = 4;
+
 fn status(gauge: Gauge) -> u16
     ensures { λ r. ⌜ r ≡ status gauge ⌝ }
 {
@@ -48,14 +49,19 @@ fn status(gauge: Gauge) -> u16
     STATUS_FULL_ACCESS
 }
 
-// A byte of the keys, 0 past their end; those of an image that goes with its layout have no end there.
+// A number of 8 bits among wider ones.
+fn wide(x: u8) -> u32
+    ensures { λ r. ⌜ (r ≡ x) × (r < 256) ⌝ }
+{
+    x as u32
+}
+
+// A byte of the keys.
 fn key_byte(keys: &[u8], at: usize) -> u32
+    requires { ⌜ at < length (now keys) ⌝ }
     ensures { λ r. ⌜ r ≡ getD (now (keys .entry)) at 0 ⌝ }
 {
-    if at < keys.len() {
-        return wide(keys[at]);
-    }
-    0
+    wide(keys[at])
 }
 
 // Whether two words as sent, low byte first, are the four bytes of a key that begins at `at`.
@@ -63,6 +69,9 @@ fn is_key(keys: &[u8], at: usize, first: u32, second: u32) -> bool
     requires { ⌜ at ≤ fullAccessKey ⌝ }
     ensures { λ r. ⌜ r ≡ isKey (now (keys .entry)) at first second ⌝ }
 {
+    if keys.len() < at + KEY_LENGTH {
+        return false;
+    }
     if key_byte(keys, at) == first % 256 {
         if key_byte(keys, at + 1) == first / 256 {
             if key_byte(keys, at + 2) == second % 256 {
@@ -136,17 +145,31 @@ fn with_status(gauge: Gauge) -> Gauge
 }
 
 // A control word is obeyed.
-pub fn obey(layout: Layout, image: &[u8], gauge: Gauge, word: u32) -> Gauge
+fn obey(layout: Layout, image: &[u8], gauge: Gauge, word: u32) -> Gauge
     ensures { λ r. ⌜ r ≡ obey layout (now (image .entry)) gauge word ⌝ }
 {
     if word == STATUS_WORD {
         return with_status(gauge);
     }
     if word == SEAL_WORD {
-        return power_on(BOOT_SEALED);
+        return restart(gauge, BOOT_SEALED);
     }
     if word == RESET_WORD {
-        return power_on(gauge.boot);
+        return restart(gauge, gauge.boot);
     }
     key_word(layout, image, gauge, word)
+}
+
+// The word of a low and a high byte.
+fn word(low: u8, high: u8) -> u32
+    ensures { λ r. ⌜ r ≡ word low high ⌝ }
+{
+    256 * (high as u32) + (low as u32)
+}
+
+// 0x01: the word that this byte makes with the low control byte is obeyed.
+pub fn take_high(layout: Layout, image: &[u8], gauge: Gauge, byte: u8) -> Gauge
+    ensures { λ r. ⌜ r ≡ obey layout (now (image .entry)) gauge (word (gauge .low) byte) ⌝ }
+{
+    obey(layout, image, gauge, word(gauge.low, byte))
 }

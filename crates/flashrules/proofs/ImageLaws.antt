@@ -1,9 +1,8 @@
 -- Laws of the blocks of an image: their bytes as loaded, and what a store leaves, in the block and elsewhere.
--- Assumes nothing.
 use Prim.Native.Nat.{ℕ, _+_, _-_, _≤_, _<_}
 use mathlib.Core.Path.{_≡_, sym, ap, _∙_}
 use mathlib.Core.Logic.{_⊎_, ⊎-elim}
-use mathlib.Core.List.{List, _++_, append-assoc}
+use mathlib.Core.List.{List, [], _++_, append-assoc}
 use native.Mathlib.Nat.{add-sub-cancel-left}
 use native.Mathlib.Numerals.{add-one}
 use native.Mathlib.Omega.{arith}
@@ -14,12 +13,12 @@ use borrow.Author.Tests.{ltb-true, ltb-false}
 use Rattle.checksum.proofs.ChecksumLaws.{total-append, total-zeros}
 use Rattle.flashrules.specs.Answer.{lengthOf}
 use Rattle.flashrules.specs.Lookup.{blockSize, findBlock}
-use Rattle.flashrules.specs.Image.{blockBytes, loaded, storeBlock}
-use Rattle.flashrules.specs.Laws.{ChecksumLoaded, BlockLength, LoadedLength, StoreLength, StoreHere, Within, StoreOutside, StoreElsewhere}
+use Rattle.flashrules.specs.Image.{blockBytes, asLoaded, storeBlock}
+use Rattle.flashrules.specs.Laws.{ChecksumLoaded, BlockLength, BlockEmpty, LoadedLength, StoreLength, StoreHere, Within, StoreOutside, StoreElsewhere}
 use Rattle.flashrules.specs.declared.layout.Layout.{Layout}
 use Rattle.flashrules.specs.declared.lookup.Lookup.{Lookup}
 use Rattle.flashrules.proofs.Picks.{on-test, on-answer}
-use Rattle.flashrules.proofs.LookupLaws.{block-inside, blocks-apart}
+use Rattle.flashrules.proofs.LookupLaws.{block-inside, blocks-apart, refused-number}
 
 -- the loop that copies a window into an image: `e` is its invariant
 module _ (f f₀ w : List ℕ) (at k n : ℕ) (lw : length w ≡ blockSize) (most : n ≤ blockSize) (end : at + n ≤ length f₀) (e : f ≡ paste f₀ at w k) where
@@ -79,8 +78,22 @@ unfolding blockBytes
 block-length l image i b =
     on-answer (findBlock l (length image) i b) (λ s k p. rw p (part-length image s k (block-inside l (length image) i b s k p .end))) (λ e p. rw p)
 
+refused-empty : (l : Layout) (image : List ℕ) (i b k : ℕ) → findBlock l (length image) i b ≡ Lookup.Refused k → blockBytes l image i b ≡ []
+unfolding blockBytes
+refused-empty l image i b k q = rw q
+
+pub block-empty : BlockEmpty
+block-empty l image i b = (
+  (λ p e.
+      let n : lengthOf (findBlock l (length image) i b) ≡ 0 = sym (block-length l image i b) ∙ rw p in
+      on-answer (findBlock l (length image) i b)
+      (λ s k q. let z : k ≡ 0 = rw q at n in omega (arith, block-inside l (length image) i b s k q .some))
+      (λ k q. let z : k ≡ 0 = rw q at e in omega (arith, refused-number l (length image) i b k q))),
+  (λ h. on-answer (findBlock l (length image) i b) (λ s k q. absurd (h (rw q))) (refused-empty l image i b)),
+)
+
 pub loaded-length : LoadedLength
-unfolding loaded
+unfolding asLoaded
 loaded-length l image i b =
     let n = block-length l image i b in
     on-answer (findBlock l (length image) i b)
@@ -93,7 +106,7 @@ loaded-length l image i b =
     simp (length-append, length-replicate) (omega arith))
 
 pub checksum-loaded : ChecksumLoaded
-unfolding loaded
+unfolding asLoaded
 checksum-loaded bs = simp (total-append, total-zeros) (omega arith)
 
 -- a store into block b of class i, of a lookup that found it, and of one that was refused

@@ -1,5 +1,4 @@
 -- Laws of layouts: their classes as the code goes through them, by the index k of an entry, and what a valid layout has.
--- Assumes nothing.
 use Prim.Native.Nat.{ℕ, zero, suc, _+_, _≤_, _<_, min}
 use mathlib.Core.Path.{_≡_, refl, sym, ap, _∙_}
 use mathlib.Core.Bool.{Bool, true, false, cond}
@@ -10,12 +9,12 @@ use lib.Dec.{eqb}
 use lib.ListN.{length, drop, getD, length-take, drop-of-length-le}
 use lib.Seq.{drop-cons, getD-take}
 use borrow.Author.Tests.{eq-eqb, ne-eqb, eqb-true, leb-true}
-use Rattle.flashrules.specs.Answer.{unknownClass}
+use Rattle.flashrules.specs.Error.{unknownClass}
 use Rattle.flashrules.specs.Layout.{maxClasses, maxImageLength, infoClass, infoLength, keyClass, minKeyLength}
 use Rattle.flashrules.specs.Layout.{Class, paired, classes, sizeOf, size, locate, inOrder, ordered, lengthIn, valid, fits}
 use Rattle.flashrules.specs.declared.layout.Layout.{Layout}
 use Rattle.flashrules.specs.declared.lookup.Lookup.{Lookup}
-use Rattle.flashrules.proofs.Picks.{all-first, all-rest}
+use Rattle.flashrules.proofs.Picks.{and-first, and-rest}
 
 abbrev entry : ℕ → ℕ → Class
 entry i n = record { id = i; len = n }
@@ -104,11 +103,11 @@ pub record Valid (l : Layout) : Type 0 where
 
 pub valid-parts : (l : Layout) → valid l ≡ true → Valid l
 unfolding valid
-valid-parts l e = search (all-first, all-rest, leb-true, eqb-true) depth 12
+valid-parts l e = search (and-first, and-rest, leb-true, eqb-true) depth 12
 
 pub fits-parts : (l : Layout) (n : ℕ) → fits l n ≡ true → (valid l ≡ true) × (n ≡ size l)
 unfolding fits
-fits-parts l n e = search (all-first, all-rest, eqb-true)
+fits-parts l n e = search (and-first, and-rest, eqb-true)
 
 -- for the functions that ask it of a layout that a call has found valid, or fitting
 pub valid-used : (l : Layout) (t : Bool) → t ≡ valid l → t ≡ true → l .count ≤ maxClasses

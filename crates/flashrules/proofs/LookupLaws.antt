@@ -1,5 +1,4 @@
 -- Laws of the class search and of the block lookup: what is found lies inside the image, and two blocks lie apart.
--- Assumes nothing.
 use Prim.Native.Nat.{ℕ, _+_, _-_, _*_, _^_, _≤_, _<_, min}
 use mathlib.Core.Path.{_≡_, refl, sym, _∙_}
 use mathlib.Core.Bool.{Bool, true, false}
@@ -10,13 +9,14 @@ use lib.Dec.{eqb, ltb}
 use mir.Syntax.{w64}
 use mir.Val.{Fits}
 use borrow.Author.Tests.{eqb-true, eqb-false, ltb-true, ltb-false, eq-eqb, lt-ltb, le-ltb}
-use Rattle.flashrules.specs.Answer.{lengthOf, unknownClass, unknownBlock, invalidLayout}
+use Rattle.flashrules.specs.Answer.{lengthOf}
+use Rattle.flashrules.specs.Error.{unknownClass, unknownBlock, malformed}
 use Rattle.flashrules.specs.Layout.{maxImageLength, infoClass, keyClass, Class, classes, sizeOf, size, locate, lengthIn, valid, fits}
 use Rattle.flashrules.specs.Lookup.{blockSize, findClass, blockIn, findBlock, blockExists}
-use Rattle.flashrules.specs.Laws.{BlockInside, ExistsFound, BlocksApart, InfoBlocks, KeyBlock}
+use Rattle.flashrules.specs.Laws.{BlockInside, ExistsFound, BlocksApart, InfoBlocks, KeyBlock, SameLayout}
 use Rattle.flashrules.specs.declared.layout.Layout.{Layout}
 use Rattle.flashrules.specs.declared.lookup.Lookup.{Lookup}
-use Rattle.flashrules.proofs.Picks.{on-test, on-answer}
+use Rattle.flashrules.proofs.Picks.{on-test, on-answer, on-cond}
 use Rattle.flashrules.proofs.LayoutLaws.{valid-parts, fits-parts}
 
 -- ---- one block of a class, by its offset o in the class
@@ -103,7 +103,7 @@ placed l n i b s k p =
     record { base = base; len = len; fitting = f; class = e; below = ltb-true _ _ h; start = sym (g .0); size = sym (g .1) })
     (λ h. absurd (refused-found unknownBlock s k (rw h at q))))
     (λ x e. absurd (refused-found x s k (rw (f, e) at p))))
-    (λ f. absurd (refused-found invalidLayout s k (rw f at p)))
+    (λ f. absurd (refused-found malformed s k (rw f at p)))
 
 pub block-inside : BlockInside
 block-inside l n i b s k p =
@@ -163,6 +163,51 @@ info-blocks l b v h = let e = valid-parts l v .info in block-in-class l v infoCl
 
 pub key-block : KeyBlock
 key-block l v = let h = valid-parts l v .keys in omega (arith, block-in-class l v keyClass 0 (omega arith))
+
+-- ---- a lookup that is refused has a number
+
+abbrev HasNumber : Lookup → Type 0
+HasNumber a = (e : ℕ) → a ≡ Lookup.Refused e → 0 < e
+
+number-is : (k : ℕ) → 0 < k → HasNumber (Lookup.Refused k)
+number-is k h e p = let q : k ≡ e = cc in omega arith
+
+found-number : (s k : ℕ) → HasNumber (Lookup.Found s k)
+found-number s k e p = absurd (refused-found e s k (sym p))
+
+locate-number : (at : ℕ) (cs : List Class) (i : ℕ) → HasNumber (locate at cs i)
+locate-number at [] i = number-is unknownClass (omega arith)
+locate-number at (c ∷ cs) i =
+    on-cond HasNumber (eqb (c .id) i) _ _ (λ _. found-number at (c .len)) (λ _. locate-number (at + c .len) cs i)
+
+-- a class that is not there is refused with 4
+pub locate-refused : (at : ℕ) (cs : List Class) (i e : ℕ) → locate at cs i ≡ Lookup.Refused e → e ≡ unknownClass
+locate-refused at [] i e p = cc
+locate-refused at (c ∷ cs) i e p =
+    on-test (eqb (c .id) i) (λ h. absurd (refused-found e at (c .len) (sym (sym (locate-first at c cs i h) ∙ p))))
+    (λ h. locate-refused (at + c .len) cs i e (sym (locate-rest at c cs i h) ∙ p))
+
+pub refused-number : (l : Layout) (n i b : ℕ) → HasNumber (findBlock l n i b)
+unfolding findBlock
+refused-number l n i b =
+    on-cond HasNumber (fits l n) _ _
+    (λ _.
+    on-answer (locate 0 (classes l) i)
+    (λ s k p. rw p (on-cond HasNumber (ltb (blockSize * b) k) _ _ (λ _. found-number _ _) (λ _. number-is unknownBlock (omega arith))))
+    (λ e p. rw p (number-is e (locate-number 0 (classes l) i e p))))
+    (λ _. number-is malformed (omega arith))
+
+-- ---- layouts that mean the same
+
+pub same-layout : SameLayout
+unfolding valid fits findClass findBlock blockExists
+same-layout l l′ s = record {
+  valid = rw (s .classes, s .count);
+  fits = λ n. rw (s .classes, s .count);
+  class = λ i. rw (s .classes, s .count);
+  block = λ n i b. rw (s .classes, s .count);
+  exists = λ i b. rw (s .classes, s .count);
+}
 
 -- ---- for the functions that take the block that a call has found
 

@@ -1,10 +1,9 @@
 -- How a choice of the rules is answered at a `return`: by what the place knows of the choice, and by the answer of that branch. `search picks`
 -- takes a goal `z ≡ cond t x y` apart so, however deep the choices nest, and finds what is known in the record of the place.
--- Assumes nothing.
 use Prim.Native.Nat.{ℕ, _<_, _≤_}
 use borrow.Author.Tests.{eqb-true, eq-eqb, ne-eqb, lt-ltb, le-ltb, le-leb, lt-leb}
 use mathlib.Core.Path.{_≡_, refl, sym, _∙_}
-use mathlib.Core.Bool.{Bool, true, false, cond, true≢false}
+use mathlib.Core.Bool.{Bool, true, false, cond, not, true≢false}
 use mathlib.Core.List.{List, [], _∷_}
 use lib.Dec.{eqb, ltb, leb}
 use Rattle.flashrules.specs.Answer.{ifFound, errorOf}
@@ -45,6 +44,13 @@ module _ {A : Type 0} (z x y : A) (t k : Bool) (p : k ≡ t) where
   pub call-false : k ≡ false → z ≡ y → z ≡ cond t x y
   call-false q e = rw (← p, q) e
 
+  -- where the rule tests that it is not so
+  pub call-not-true : k ≡ true → z ≡ y → z ≡ cond (not t) x y
+  call-not-true q e = rw (← p, q) e
+
+  pub call-not-false : k ≡ false → z ≡ x → z ≡ cond (not t) x y
+  call-not-false q e = rw (← p, q) e
+
 module _ {A : Type 0} (z x y : A) (j k v : ℕ) (p : k ≡ j) where
   pub call-eq : k ≡ v → z ≡ x → z ≡ cond (eqb j v) x y
   call-eq q e = pick-eq z x y j v (sym p ∙ q) e
@@ -80,19 +86,19 @@ module _ {A : Type 0} (z : A) (f : ℕ → ℕ → A) (r : ℕ → A) (a k : Loo
 pub call-error : (e : ℕ) (a k : Lookup) → k ≡ a → e ≡ errorOf k → e ≡ errorOf a
 call-error e a k p q = rw p at q
 
-pub ruleset calls = (call-true, call-false, call-eq, call-ne, call-le, call-gt, call-last-eq, call-last-le, call-lt, call-found, call-refused, call-error)
+pub ruleset calls = (call-true, call-false, call-not-true, call-not-false, call-eq, call-ne, call-le, call-gt, call-last-eq, call-last-le, call-lt, call-found, call-refused, call-error)
 
 -- several tests at once, taken apart and put together: `search` goes along them by these
-pub all-first : (t u : Bool) → cond t u false ≡ true → t ≡ true
-all-first true u e = refl
-all-first false u e = e
+pub and-first : (t u : Bool) → cond t u false ≡ true → t ≡ true
+and-first true u e = refl
+and-first false u e = e
 
-pub all-rest : (t u : Bool) → cond t u false ≡ true → u ≡ true
-all-rest true u e = e
-all-rest false u e = absurd (true≢false (sym e))
+pub and-rest : (t u : Bool) → cond t u false ≡ true → u ≡ true
+and-rest true u e = e
+and-rest false u e = absurd (true≢false (sym e))
 
-pub all-both : (t u : Bool) → t ≡ true → u ≡ true → cond t u false ≡ true
-all-both t u p q = rw (p, q)
+pub and-both : (t u : Bool) → t ≡ true → u ≡ true → cond t u false ≡ true
+and-both t u p q = rw (p, q)
 
 -- the same list, by its test
 pub same-refl : (xs : List ℕ) → same xs xs ≡ true
@@ -103,7 +109,7 @@ pub same-eq : (xs ys : List ℕ) → same xs ys ≡ true → xs ≡ ys
 same-eq [] [] e = refl
 same-eq [] (y ∷ ys) e = absurd (true≢false (sym e))
 same-eq (x ∷ xs) [] e = absurd (true≢false (sym e))
-same-eq (x ∷ xs) (y ∷ ys) e = λ j. eqb-true x y (all-first (eqb x y) _ e) j ∷ same-eq xs ys (all-first _ _ (all-rest (eqb x y) _ e)) j
+same-eq (x ∷ xs) (y ∷ ys) e = λ j. eqb-true x y (and-first (eqb x y) _ e) j ∷ same-eq xs ys (and-first _ _ (and-rest (eqb x y) _ e)) j
 
 -- a proof by the cases of a test or of an answer, which keeps what the case says
 module _ {P : Type 0} where

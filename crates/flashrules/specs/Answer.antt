@@ -1,5 +1,4 @@
 -- What a lookup answers, case by case: document 01's error number, and the values.
--- Assumes nothing.
 use Prim.Native.Nat.{ℕ}
 use Rattle.flashrules.specs.declared.lookup.Lookup.{Lookup}
 
@@ -19,17 +18,3 @@ startOf a = ifFound a (λ s n. s) (λ e. 0)
 
 abbrev pub lengthOf : Lookup → ℕ
 lengthOf a = ifFound a (λ s n. n) (λ e. 0)
-
--- the refusals of a lookup. 01, "Numbers of the refusals": 4, 5, 10
-abbrev pub unknownClass : ℕ
-unknownClass = 4
-
-abbrev pub unknownBlock : ℕ
-unknownBlock = 5
-
-abbrev pub invalidLayout : ℕ
-invalidLayout = 10
-
--- of a call that is lent a buffer. 14: "lent room shorter than the answer"
-abbrev pub shortBuffer : ℕ
-shortBuffer = 14

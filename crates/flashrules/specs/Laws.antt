@@ -1,24 +1,51 @@
--- What the definitions amount to, claim by claim. proofs/Laws.antt has a proof of each, under its name in small letters.
--- Assumes nothing.
+-- What the definitions amount to, claim by claim. proofs/Laws.antt has a proof of each, under its name in small
+-- letters.
 use Prim.Native.Nat.{ℕ, _+_, _≤_, _<_}
 use mathlib.Core.Path.{_≡_}
-use mathlib.Core.Logic.{_⊎_}
-use mathlib.Core.Bool.{true, false}
-use mathlib.Core.List.{List}
+use mathlib.Core.Logic.{_⊎_, _↔_}
+use mathlib.Core.Bool.{Bool, true, false}
+use mathlib.Core.List.{List, [], _++_}
 use lib.ListN.{length, getD, take}
 use Rattle.checksum.specs.Checksum.{checksum}
-use Rattle.flashrules.specs.Answer.{ifFound, startOf, lengthOf}
-use Rattle.flashrules.specs.Layout.{size, valid, fits, infoClass, keyClass, minKeyLength}
-use Rattle.flashrules.specs.Lookup.{blockSize, findBlock, blockExists}
-use Rattle.flashrules.specs.Image.{blockBytes, storeBlock, loaded}
+use Rattle.flashrules.specs.Refusal.{firstError, NoneHolds, Numbered}
+use Rattle.flashrules.specs.Choice.{differing}
+use Rattle.flashrules.specs.Answer.{ifFound, errorOf, startOf, lengthOf}
+use Rattle.flashrules.specs.Layout.{classes, size, valid, fits, infoClass, keyClass, minKeyLength}
+use Rattle.flashrules.specs.Lookup.{blockSize, findClass, findBlock, blockExists}
+use Rattle.flashrules.specs.Image.{blockBytes, storeBlock, asLoaded}
 use Rattle.flashrules.specs.declared.layout.Layout.{Layout}
 use Rattle.flashrules.specs.declared.lookup.Lookup.{Lookup}
+
+-- ---- refusals
+
+-- a list of tests gives 0 exactly if none of them holds
+abbrev pub NoError : Type 0
+NoError = (ts : List (Bool × ℕ)) → Numbered ts → (firstError ts ≡ 0) ↔ NoneHolds ts
+
+-- ---- how many places differ
+
+-- none exactly if the lists are equal
+abbrev pub DifferingNone : Type 0
+DifferingNone = (xs ys : List ℕ) → (differing xs ys ≡ 0) ↔ (xs ≡ ys)
+
+abbrev pub DifferingSymmetric : Type 0
+DifferingSymmetric = (xs ys : List ℕ) → differing xs ys ≡ differing ys xs
+
+-- no more than there are
+abbrev pub DifferingMost : Type 0
+DifferingMost = (xs ys : List ℕ) → length xs ≡ length ys → differing xs ys ≤ length xs
+
+-- part by part
+abbrev pub DifferingAppend : Type 0
+DifferingAppend =
+    (xs ys xs′ ys′ : List ℕ) → length xs ≡ length ys
+    → differing (xs ++ xs′) (ys ++ ys′) ≡ differing xs ys + differing xs′ ys′
 
 -- ---- checksums
 
 -- the checksum of a short block as loaded is that of its own bytes
 abbrev pub ChecksumLoaded : Type 0
-ChecksumLoaded = (bs : List ℕ) → checksum (loaded bs) ≡ checksum bs
+ChecksumLoaded = (bs : List ℕ) → checksum (asLoaded bs) ≡ checksum bs
 
 -- ---- blocks of an image of n bytes
 
@@ -33,27 +60,40 @@ BlockInside = (l : Layout) (n i b s k : ℕ) → findBlock l n i b ≡ Lookup.Fo
 
 -- a block exists exactly if its lookup in an image of the layout finds it
 abbrev pub ExistsFound : Type 0
-ExistsFound = (l : Layout) (n i b : ℕ) → fits l n ≡ true → blockExists l i b ≡ ifFound (findBlock l n i b) (λ s k. true) (λ e. false)
+ExistsFound =
+    (l : Layout) (n i b : ℕ) → fits l n ≡ true
+    → blockExists l i b ≡ ifFound (findBlock l n i b) (λ s k. true) (λ e. false)
 
 -- two blocks that differ in class or in number do not overlap
 abbrev pub BlocksApart : Type 0
 BlocksApart =
-    (l : Layout) (n i b s k i′ b′ s′ k′ : ℕ) → findBlock l n i b ≡ Lookup.Found s k → findBlock l n i′ b′ ≡ Lookup.Found s′ k′
+    (l : Layout) (n i b s k i′ b′ s′ k′ : ℕ) → findBlock l n i b ≡ Lookup.Found s k
+    → findBlock l n i′ b′ ≡ Lookup.Found s′ k′
     → ((i ≡ i′) × (b ≡ b′) → ⊥) → (s + k ≤ s′) ⊎ (s′ + k′ ≤ s)
 
 -- a block is as long as its lookup says
 abbrev pub BlockLength : Type 0
-BlockLength = (l : Layout) (image : List ℕ) (i b : ℕ) → length (blockBytes l image i b) ≡ lengthOf (findBlock l (length image) i b)
+BlockLength =
+    (l : Layout) (image : List ℕ) (i b : ℕ)
+    → length (blockBytes l image i b) ≡ lengthOf (findBlock l (length image) i b)
+
+-- a refused request gives an empty part, and no other does: the number of the lookup tells the two apart
+abbrev pub BlockEmpty : Type 0
+BlockEmpty =
+    (l : Layout) (image : List ℕ) (i b : ℕ)
+    → (blockBytes l image i b ≡ []) ↔ (errorOf (findBlock l (length image) i b) ≡ 0 → ⊥)
 
 -- a block as loaded fills the window
 abbrev pub LoadedLength : Type 0
-LoadedLength = (l : Layout) (image : List ℕ) (i b : ℕ) → length (loaded (blockBytes l image i b)) ≡ blockSize
+LoadedLength = (l : Layout) (image : List ℕ) (i b : ℕ) → length (asLoaded (blockBytes l image i b)) ≡ blockSize
 
 -- ---- the image after a store of a window w into block b of class i
 
 -- it is as long as before
 abbrev pub StoreLength : Type 0
-StoreLength = (l : Layout) (image : List ℕ) (i b : ℕ) (w : List ℕ) → length w ≡ blockSize → length (storeBlock l image i b w) ≡ length image
+StoreLength =
+    (l : Layout) (image : List ℕ) (i b : ℕ) (w : List ℕ) → length w ≡ blockSize
+    → length (storeBlock l image i b w) ≡ length image
 
 -- the block is the window's first bytes, as many as the block has
 abbrev pub StoreHere : Type 0
@@ -74,7 +114,8 @@ StoreOutside =
 -- so is every other block
 abbrev pub StoreElsewhere : Type 0
 StoreElsewhere =
-    (l : Layout) (image : List ℕ) (i b : ℕ) (w : List ℕ) → length w ≡ blockSize → (i′ b′ : ℕ) → ((i ≡ i′) × (b ≡ b′) → ⊥)
+    (l : Layout) (image : List ℕ) (i b : ℕ) (w : List ℕ) → length w ≡ blockSize → (i′ b′ : ℕ)
+    → ((i ≡ i′) × (b ≡ b′) → ⊥)
     → blockBytes l (storeBlock l image i b w) i′ b′ ≡ blockBytes l image i′ b′
 
 -- ---- blocks that every valid layout has
@@ -86,3 +127,21 @@ InfoBlocks = (l : Layout) (b : ℕ) → valid l ≡ true → b < 3 → lengthOf 
 -- the block that holds the keys
 abbrev pub KeyBlock : Type 0
 KeyBlock = (l : Layout) → valid l ≡ true → minKeyLength ≤ lengthOf (findBlock l (size l) keyClass 0)
+
+-- ---- layouts that mean the same
+
+-- two layouts with one count and the same classes; what stands past the count means nothing
+pub record SameClasses (l l′ : Layout) : Type 0 where
+  pub count : l .count ≡ l′ .count
+  pub classes : classes l ≡ classes l′
+
+-- no rule tells them apart
+pub record SameLookups (l l′ : Layout) : Type 0 where
+  pub valid : valid l ≡ valid l′
+  pub fits : (n : ℕ) → fits l n ≡ fits l′ n
+  pub class : (i : ℕ) → findClass l i ≡ findClass l′ i
+  pub block : (n i b : ℕ) → findBlock l n i b ≡ findBlock l′ n i b
+  pub exists : (i b : ℕ) → blockExists l i b ≡ blockExists l′ i b
+
+abbrev pub SameLayout : Type 0
+SameLayout = (l l′ : Layout) → SameClasses l l′ → SameLookups l l′

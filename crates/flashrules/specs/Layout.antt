@@ -1,12 +1,12 @@
 -- Layouts. Document 01, "Layout and image", first point.
--- Assumes nothing.
 use Prim.Native.Nat.{ℕ, _+_}
 use mathlib.Core.Bool.{Bool, true, false, cond}
 use mathlib.Core.List.{List, [], _∷_}
 use lib.Dec.{eqb, leb}
 use lib.ListN.{take, replicate}
-use Rattle.flashrules.specs.Answer.{lengthOf, unknownClass}
-use Rattle.flashrules.specs.Choice.{all}
+use Rattle.flashrules.specs.Answer.{lengthOf}
+use Rattle.flashrules.specs.Error.{unknownClass}
+use Rattle.flashrules.specs.Choice.{and}
 use Rattle.flashrules.specs.declared.layout.Layout.{Layout}
 use Rattle.flashrules.specs.declared.lookup.Lookup.{Lookup}
 
@@ -60,7 +60,8 @@ sizeOf (c ∷ cs) = c .len + sizeOf cs
 abbrev pub size : Layout → ℕ
 size l = sizeOf (classes l)
 
--- 01: "The image is the classes' bytes in that order, end to end." The class with an identifier, where the first one starts at `at`
+-- 01: "The image is the classes' bytes in that order, end to end." The class with an identifier, where the first one
+-- starts at `at`
 abbrev pub locate : ℕ → List Class → ℕ → Lookup
 locate at [] i = Lookup.Refused unknownClass
 locate at (c ∷ cs) i = cond (eqb (c .id) i) (Lookup.Found at (c .len)) (locate (at + c .len) cs i)
@@ -71,9 +72,10 @@ noClasses = record { count = 0; ids = replicate maxClasses 0; lengths = replicat
 
 -- ---- which layouts are valid
 
--- 01: "identifiers 0 to 255, strictly ascending, each 1 to 512 bytes long". The next identifier is at least lo; 0 to 255 is the type of an entry
+-- 01: "identifiers 0 to 255, strictly ascending, each 1 to 512 bytes long". The next identifier is at least lo; 0 to
+-- 255 is the type of an entry
 abbrev pub inOrder : ℕ → Class → Bool
-inOrder lo c = all (leb lo (c .id) ∷ leb 1 (c .len) ∷ leb (c .len) maxClassLength ∷ [])
+inOrder lo c = and (leb lo (c .id) ∷ leb 1 (c .len) ∷ leb (c .len) maxClassLength ∷ [])
 
 abbrev pub ordered : ℕ → List Class → Bool
 ordered lo [] = true
@@ -85,12 +87,12 @@ lengthIn l i = lengthOf (locate 0 (classes l) i)
 
 -- 01: "Class 58 is present with exactly 96 bytes. Class 112 is present with at least 28."
 abbrev pub hasFixedClasses : Layout → Bool
-hasFixedClasses l = all (eqb (lengthIn l infoClass) infoLength ∷ leb minKeyLength (lengthIn l keyClass) ∷ [])
+hasFixedClasses l = and (eqb (lengthIn l infoClass) infoLength ∷ leb minKeyLength (lengthIn l keyClass) ∷ [])
 
 -- 01: "A layout is 1 to 32 classes, identifiers .., 4,096 bytes together at most. Class 58 .. Class 112 .."
 unfoldable pub valid : Layout → Bool
 valid l =
-    all
+    and
     (leb 1 (l .count)
     ∷ leb (l .count) maxClasses
     ∷ ordered 0 (classes l)
@@ -100,4 +102,4 @@ valid l =
 
 -- refusal 10: "layout breaks its rules, or image length differs from it"
 unfoldable pub fits : Layout → ℕ → Bool
-fits l n = all (valid l ∷ eqb n (size l) ∷ [])
+fits l n = and (valid l ∷ eqb n (size l) ∷ [])

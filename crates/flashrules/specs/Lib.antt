@@ -1,3 +1,6 @@
+pub mod Error
+pub mod Refusal
+pub mod Outcome
 pub mod Choice
 pub mod Answer
 pub mod Layout

@@ -1,18 +1,23 @@
 -- Laws of a read: one register, the loop that fills the buffer, and the checks before it.
--- Assumes nothing.
 use Prim.Native.Nat.{ℕ, suc, _+_, _-_, _/_, _%_, _≤_, _<_}
 use mathlib.Core.Path.{_≡_, sym, _∙_}
+use mathlib.Core.Bool.{cond}
 use mathlib.Core.List.{List, [], _∷_, _++_, append-assoc}
 use native.Mathlib.Nat.{sub-zero}
 use native.Mathlib.Numerals.{add-one}
 use native.Mathlib.Omega.{arith}
+use lib.Dec.{ltb}
 use lib.ListN.{length, getD, take, drop, set, take-append-drop}
 use lib.Seq.{take-suc-set, drop-set-lt}
 use borrow.Author.Tests.{eq-eqb, ne-eqb}
 use Rattle.checksum.specs.Checksum.{checksum}
+use Rattle.flashrules.specs.Error.{shortBuffer}
+use Rattle.flashrules.specs.Outcome.{outcome}
 use Rattle.flashrules.specs.declared.layout.Layout.{Layout}
+use Rattle.flashrules.proofs.RefusalLaws.{error-first, error-behind}
 use Rattle.gaugerules.specs.Register.{registers, registerOf}
-use Rattle.gaugerules.specs.Read.{unlessSealed, readAt, readByte, readBytes, answer, seen, readError, read}
+use Rattle.gaugerules.specs.Write.{callTests, callError}
+use Rattle.gaugerules.specs.Read.{unlessSealed, readAt, readByte, readBytes, reading, readError, read}
 use Rattle.gaugerules.specs.declared.state.Gauge.{Gauge}
 use Rattle.gaugerules.specs.declared.register.Register.{Register}
 use Rattle.gaugerules.proofs.ReadLaws.{read-free}
@@ -77,6 +82,16 @@ module _ (g : Gauge) (at i n : ℕ) (buffer z : List ℕ) (e : take i buffer ++ 
 
 -- ---- the checks before the first byte
 
+-- the room's test comes behind those of a call
+module _ (l : Layout) (size : ℕ) (g : Gauge) (r n room e : ℕ) (p : e ≡ callError l size g r n) where
+  pub call-first : (e ≡ 0 → ⊥) → e ≡ readError l size g r n room
+  unfolding readError callError
+  call-first h = error-first (callTests l size g r n) ((ltb room n, shortBuffer) ∷ []) (omega arith, (omega arith, (omega arith, tt))) e p h
+
+  pub room-behind : e ≡ 0 → (k : ℕ) → k ≡ cond (ltb room n) shortBuffer 0 → k ≡ readError l size g r n room
+  unfolding readError callError
+  room-behind h k q = error-behind (callTests l size g r n) ((ltb room n, shortBuffer) ∷ []) (omega arith, (omega arith, (omega arith, tt))) e p h k q
+
 module _ (l : Layout) (image buffer : List ℕ) (g : Gauge) (r n e : ℕ) (p : e ≡ readError l (length image) g r n (length buffer)) where
   pub reads-span : e ≡ 0 → r + n ≤ registers
   reads-span q = called l (length image) g r n (read-free l (length image) g r n (length buffer) (sym p ∙ q) .0) .span
@@ -84,10 +99,10 @@ module _ (l : Layout) (image buffer : List ℕ) (g : Gauge) (r n e : ℕ) (p : e
   pub reads-room : e ≡ 0 → n ≤ length buffer
   reads-room q = read-free l (length image) g r n (length buffer) (sym p ∙ q) .1
 
-  pub reads : (to : List ℕ) → e ≡ 0 → to ≡ readBytes g r n ++ drop n buffer → seen (answer 0 n) to ≡ read l image g r n buffer
+  pub reads : (to : List ℕ) → e ≡ 0 → to ≡ readBytes g r n ++ drop n buffer → outcome (reading 0 n) to ≡ read l image g r n buffer
   unfolding read
   reads to q x = rw (← p, eq-eqb e 0 q, x)
 
-  pub reads-not : (e ≡ 0 → ⊥) → seen (answer e 0) buffer ≡ read l image g r n buffer
+  pub reads-not : (e ≡ 0 → ⊥) → outcome (reading e 0) buffer ≡ read l image g r n buffer
   unfolding read
   reads-not q = rw (← p, ne-eqb e 0 q)

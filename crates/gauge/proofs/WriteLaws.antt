@@ -1,5 +1,4 @@
 -- Laws of a write: one byte by its register, the loop over the bytes, and the checks before it.
--- Assumes nothing.
 use Prim.Native.Nat.{ℕ, _+_, _≤_, _<_}
 use mathlib.Core.Path.{_≡_, sym, _∙_, subst}
 use mathlib.Core.Bool.{true, cond}
@@ -10,17 +9,18 @@ use lib.Dec.{eqb, ltb}
 use lib.ListN.{length, getD, drop, drop-of-length-le}
 use lib.Seq.{drop-cons}
 use borrow.Author.Tests.{eq-eqb, ne-eqb, lt-ltb}
+use Rattle.flashrules.specs.Error.{readOnly}
+use Rattle.flashrules.specs.Outcome.{Outcome, outcome}
 use Rattle.flashrules.specs.Lookup.{blockSize}
 use Rattle.flashrules.specs.declared.layout.Layout.{Layout}
-use Rattle.gaugerules.specs.Error.{readOnly}
 use Rattle.gaugerules.specs.State.{withLow}
 use Rattle.gaugerules.specs.Register.{registers, registerOf}
 use Rattle.gaugerules.specs.Word.{word, obey}
 use Rattle.gaugerules.specs.Transfer.{accept, refuse, setClass, selectBlock, edit, setControl}
-use Rattle.gaugerules.specs.Write.{after, commit, writeAt, writeByte, Done, done, ended, writeBytes, callError, write}
+use Rattle.gaugerules.specs.Write.{commit, writeAt, writeByte, written, writeBytes, callError, write}
 use Rattle.gaugerules.specs.declared.state.Gauge.{Gauge}
 use Rattle.gaugerules.specs.declared.register.Register.{Register}
-use Rattle.gaugerules.specs.declared.answer.Step.{Step}
+use Rattle.gaugerules.specs.declared.answer.ByteWritten.{ByteWritten}
 use Rattle.gaugerules.specs.declared.answer.Written.{Written}
 use Rattle.gaugerules.proofs.RegisterLaws.{on-register}
 use Rattle.gaugerules.proofs.RunLaws.{called}
@@ -38,7 +38,7 @@ Inside Register.BlockDataControl = Unit
 Inside Register.Other = Unit
 
 inside : (r : ℕ) → Inside (registerOf r)
-inside r = on-register Inside r (λ _. tt) (λ _. tt) (λ _. tt) (λ _. tt) (λ k h. h) (λ _. tt) (λ _. tt) tt
+inside r = on-register Inside r (λ _. tt) (λ _. tt) (λ _. tt) (λ _. tt) (λ k _ h. h) (λ _. tt) (λ _. tt) (λ _ _. tt)
 
 -- the place in the window that a register was decoded as
 pub window-inside : (kind : Register) (r k : ℕ) → kind ≡ registerOf r → kind ≡ Register.BlockData k → k < blockSize
@@ -46,62 +46,62 @@ window-inside kind r k p q = subst Inside (sym p ∙ q) (inside r)
 
 -- ---- one byte, by what its register was decoded as
 
-module _ (l : Layout) (image to : List ℕ) (g : Gauge) (r byte : ℕ) (s : Step) (kind : Register) (p : kind ≡ registerOf r) where
-  pub at-control-low : kind ≡ Register.ControlLow → s ≡ accept (withLow g byte) → after s image ≡ writeByte l image g r byte
+module _ (l : Layout) (image to : List ℕ) (g : Gauge) (r byte : ℕ) (s : ByteWritten) (kind : Register) (p : kind ≡ registerOf r) where
+  pub at-control-low : kind ≡ Register.ControlLow → s ≡ accept (withLow g byte) → outcome s image ≡ writeByte l image g r byte
   unfolding writeByte writeAt
   at-control-low q e = rw (← p, q, e)
 
-  pub at-control-high : kind ≡ Register.ControlHigh → s ≡ accept (obey l image g (word (g .low) byte)) → after s image ≡ writeByte l image g r byte
+  pub at-control-high : kind ≡ Register.ControlHigh → s ≡ accept (obey l image g (word (g .low) byte)) → outcome s image ≡ writeByte l image g r byte
   unfolding writeByte writeAt
   at-control-high q e = rw (← p, q, e)
 
-  pub at-class : kind ≡ Register.DataFlashClass → s ≡ setClass g byte → after s image ≡ writeByte l image g r byte
+  pub at-class : kind ≡ Register.DataFlashClass → s ≡ setClass g byte → outcome s image ≡ writeByte l image g r byte
   unfolding writeByte writeAt
   at-class q e = rw (← p, q, e)
 
-  pub at-block : kind ≡ Register.DataFlashBlock → s ≡ selectBlock l image g byte → after s image ≡ writeByte l image g r byte
+  pub at-block : kind ≡ Register.DataFlashBlock → s ≡ selectBlock l image g byte → outcome s image ≡ writeByte l image g r byte
   unfolding writeByte writeAt
   at-block q e = rw (← p, q, e)
 
-  pub at-window : (k : ℕ) → kind ≡ Register.BlockData k → s ≡ edit g k byte → after s image ≡ writeByte l image g r byte
+  pub at-window : (k : ℕ) → kind ≡ Register.BlockData k → s ≡ edit g k byte → outcome s image ≡ writeByte l image g r byte
   unfolding writeByte writeAt
   at-window k q e = rw (← p, q, e)
 
-  pub at-checksum : kind ≡ Register.BlockDataChecksum → after s to ≡ commit l image g byte → after s to ≡ writeByte l image g r byte
+  pub at-checksum : kind ≡ Register.BlockDataChecksum → outcome s to ≡ commit l image g byte → outcome s to ≡ writeByte l image g r byte
   unfolding writeByte writeAt
   at-checksum q e = rw (← p, q, e)
 
-  pub at-control : kind ≡ Register.BlockDataControl → s ≡ setControl g byte → after s image ≡ writeByte l image g r byte
+  pub at-control : kind ≡ Register.BlockDataControl → s ≡ setControl g byte → outcome s image ≡ writeByte l image g r byte
   unfolding writeByte writeAt
   at-control q e = rw (← p, q, e)
 
-  pub at-other : kind ≡ Register.Other → s ≡ refuse readOnly g → after s image ≡ writeByte l image g r byte
+  pub at-other : kind ≡ Register.Other → s ≡ refuse readOnly g → outcome s image ≡ writeByte l image g r byte
   unfolding writeByte writeAt
   at-other q e = rw (← p, q, e)
 
 pub ruleset at-register = (at-control-low, at-control-high, at-class, at-block, at-window, at-checksum, at-control, at-other)
 
--- a word that is made of two bytes and obeyed
-pub takes-word : (l : Layout) (image : List ℕ) (g r : Gauge) (byte w : ℕ) (s : Step) → w ≡ word (g .low) byte → r ≡ obey l image g w → s ≡ accept r
+-- a word that was obeyed
+pub takes-word : (l : Layout) (image : List ℕ) (g r : Gauge) (byte : ℕ) (s : ByteWritten) → r ≡ obey l image g (word (g .low) byte) → s ≡ accept r
     → s ≡ accept (obey l image g (word (g .low) byte))
-takes-word l image g r byte w s p q e = rw (← p, ← q) e
+takes-word l image g r byte s q e = rw (← q) e
 
 -- ---- the loop over the bytes: what is left to write gives what the whole gives. `e` is its invariant
 
-module _ (l : Layout) (image : List ℕ) (g : Gauge) (bs : List ℕ) (at i : ℕ) (z : Done) (e : writeBytes l image g at i (drop i bs) ≡ z) where
-  pub run-end : length bs ≤ i → done (ended 0 i g) image ≡ z
+module _ (l : Layout) (image : List ℕ) (g : Gauge) (bs : List ℕ) (at i : ℕ) (z : Outcome Written (List ℕ)) (e : writeBytes l image g at i (drop i bs) ≡ z) where
+  pub run-end : length bs ≤ i → outcome (written 0 i g) image ≡ z
   unfolding writeBytes
   run-end h = rw drop-of-length-le at e
 
-  module _ (s : Step) (to : List ℕ) (p : after s to ≡ writeByte l image g at (getD bs i 0)) (h : i < length bs) where
-    run-turn : cond (eqb (s .error) 0) (writeBytes l to (s .gauge) (at + 1) (i + 1) (drop (i + 1) bs)) (done (ended (s .error) i (s .gauge)) to) ≡ z
-    unfolding writeBytes after
+  module _ (s : ByteWritten) (to : List ℕ) (p : outcome s to ≡ writeByte l image g at (getD bs i 0)) (h : i < length bs) where
+    run-turn : cond (eqb (s .error) 0) (writeBytes l to (s .gauge) (at + 1) (i + 1) (drop (i + 1) bs)) (outcome (written (s .error) i (s .gauge)) to) ≡ z
+    unfolding writeBytes outcome
     run-turn = let q : drop i bs ≡ getD bs i 0 ∷ drop (i + 1) bs = rw (add-one, drop-cons bs i 0) in rw (q, ← p) at e
 
     pub run-more : s .error ≡ 0 → writeBytes l to (s .gauge) (at + 1) (i + 1) (drop (i + 1) bs) ≡ z
     run-more q = rw (eq-eqb (s .error) 0 q) at run-turn
 
-    pub run-stop : (s .error ≡ 0 → ⊥) → done (ended (s .error) i (s .gauge)) to ≡ z
+    pub run-stop : (s .error ≡ 0 → ⊥) → outcome (written (s .error) i (s .gauge)) to ≡ z
     run-stop q = rw (ne-eqb (s .error) 0 q) at run-turn
 
 -- ---- the checks before the first byte
@@ -113,10 +113,10 @@ module _ (l : Layout) (image bs : List ℕ) (g : Gauge) (r e : ℕ) (p : e ≡ c
   pub writes-span : e ≡ 0 → r + length bs ≤ registers
   writes-span q = called l (length image) g r (length bs) (sym p ∙ q) .span
 
-  pub writes : (w : Written) (to : List ℕ) → e ≡ 0 → done w to ≡ writeBytes l image g r 0 bs → done w to ≡ write l image g r bs
+  pub writes : (w : Written) (to : List ℕ) → e ≡ 0 → outcome w to ≡ writeBytes l image g r 0 bs → outcome w to ≡ write l image g r bs
   unfolding write
   writes w to q x = rw (← p, eq-eqb e 0 q) x
 
-  pub writes-not : (e ≡ 0 → ⊥) → done (ended e 0 g) image ≡ write l image g r bs
+  pub writes-not : (e ≡ 0 → ⊥) → outcome (written e 0 g) image ≡ write l image g r bs
   unfolding write
   writes-not q = rw (← p, ne-eqb e 0 q)

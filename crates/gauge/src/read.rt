@@ -3,8 +3,8 @@
 use crate::register::decode;
 use crate::write::call_error;
 use checksum::checksum;
+use flashrules::error::SHORT_BUFFER;
 use flashrules::layout::Layout;
-use flashrules::lookup::SHORT_BUFFER;
 use gaugerules::answer::Reading;
 use gaugerules::register::Register;
 use gaugerules::state::Gauge;
@@ -13,8 +13,9 @@ ghost use mathlib.Core.Path.{_≡_};
 ghost use mathlib.Core.List.{_++_};
 ghost use Prim.Native.Nat.{_+_, _%_, _/_, _≤_};
 ghost use lib.ListN.{length, drop};
+ghost use Rattle.flashrules.specs.Outcome.{outcome};
 ghost use Rattle.gaugerules.specs.Register.{registers};
-ghost use Rattle.gaugerules.specs.Read.{unlessSealed, readByte, readBytes, seen, readError, read};
+ghost use Rattle.gaugerules.specs.Read.{unlessSealed, readByte, readBytes, readError, read};
 
 // A number that a sealed gauge does not show.
 fn unless_sealed(gauge: Gauge, value: u8) -> u8
@@ -97,7 +98,7 @@ pub fn read(
     count: usize,
     buffer: &mut [u8],
 ) -> Reading
-    ensures { λ a. ⌜ seen a (now (buffer .exit)) ≡ read layout (now (image .entry)) gauge register count (now (buffer .entry)) ⌝ }
+    ensures { λ a. ⌜ outcome a (now (buffer .exit)) ≡ read layout (now (image .entry)) gauge register count (now (buffer .entry)) ⌝ }
 {
     let error = read_error(layout, image.len(), gauge, register, count, buffer.len());
     if error == 0 {

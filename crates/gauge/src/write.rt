@@ -6,54 +6,60 @@ use blocktransfer::edit;
 use blocktransfer::select_block;
 use blocktransfer::set_class;
 use blocktransfer::set_control;
-use controlword::obey;
+use controlword::take_high;
+use flashrules::error::INVALID_GAUGE;
+use flashrules::error::INVALID_SPAN;
+use flashrules::error::MALFORMED;
+use flashrules::error::READ_ONLY;
 use flashrules::layout::Layout;
-use flashrules::lookup::INVALID_LAYOUT;
-use gaugerules::answer::INVALID_GAUGE;
-use gaugerules::answer::INVALID_SPAN;
-use gaugerules::answer::READ_ONLY;
-use gaugerules::answer::Step;
+use gaugerules::answer::ByteWritten;
 use gaugerules::answer::Written;
 use gaugerules::register::REGISTERS;
 use gaugerules::register::Register;
 use gaugerules::state::Gauge;
-use gaugestate::state::join;
 use gaugestate::valid::valid;
 use layout::valid::fits;
 ghost use mathlib.Core.Path.{_≡_};
 ghost use Prim.Native.Nat.{_+_, _≤_};
 ghost use lib.ListN.{length};
+ghost use Rattle.flashrules.specs.Outcome.{outcome};
 ghost use Rattle.gaugerules.specs.Register.{registers};
 ghost use Rattle.gaugerules.specs.Transfer.{accept};
 ghost use Rattle.gaugerules.specs.State.{withLow};
 ghost use Rattle.gaugerules.specs.Word.{word, obey};
-ghost use Rattle.gaugerules.specs.Write.{after, writeByte, done, writeBytes, badSpan, callError, write};
+ghost use Rattle.gaugerules.specs.Write.{writeByte, writeBytes, badSpan, callError, write};
 
 // 0x00.
-fn keep_low(gauge: Gauge, byte: u8) -> Step
+fn keep_low(gauge: Gauge, byte: u8) -> ByteWritten
     ensures { λ s. ⌜ s ≡ accept (withLow gauge byte) ⌝ }
 {
     let mut next = gauge;
     next.low = byte;
-    Step {
+    ByteWritten {
         error: 0,
         gauge: next,
     }
 }
 
 // 0x01.
-fn take_word(layout: Layout, image: &[u8], gauge: Gauge, byte: u8) -> Step
+fn take_word(layout: Layout, image: &[u8], gauge: Gauge, byte: u8) -> ByteWritten
     ensures { λ s. ⌜ s ≡ accept (obey layout (now (image .entry)) gauge (word (gauge .low) byte)) ⌝ }
 {
-    Step {
+    ByteWritten {
         error: 0,
-        gauge: obey(layout, image, gauge, join(byte, gauge.low)),
+        gauge: take_high(layout, image, gauge, byte),
     }
 }
 
 // One byte at a register.
-fn write_byte(layout: Layout, image: &mut [u8], gauge: Gauge, register: usize, byte: u8) -> Step
-    ensures { λ s. ⌜ after s (now (image .exit)) ≡ writeByte layout (now (image .entry)) gauge register byte ⌝ }
+fn write_byte(
+    layout: Layout,
+    image: &mut [u8],
+    gauge: Gauge,
+    register: usize,
+    byte: u8,
+) -> ByteWritten
+    ensures { λ s. ⌜ outcome s (now (image .exit)) ≡ writeByte layout (now (image .entry)) gauge register byte ⌝ }
 {
     let kind = decode(register);
     match kind {
@@ -64,7 +70,7 @@ fn write_byte(layout: Layout, image: &mut [u8], gauge: Gauge, register: usize, b
         Register::BlockData(k) => edit(gauge, k, byte),
         Register::BlockDataChecksum => commit(layout, image, gauge, byte),
         Register::BlockDataControl => set_control(gauge, byte),
-        Register::Other => Step {
+        Register::Other => ByteWritten {
             error: READ_ONLY,
             gauge,
         },
@@ -103,7 +109,7 @@ pub(crate) fn call_error(
         }
         return INVALID_GAUGE;
     }
-    INVALID_LAYOUT
+    MALFORMED
 }
 
 // The bytes from a register on.
@@ -115,15 +121,15 @@ fn write_bytes(
     bytes: &[u8],
 ) -> Written
     requires { ⌜ register + length (now bytes) ≤ registers ⌝ }
-    ensures { λ w. ⌜ done w (now (image .exit)) ≡ writeBytes layout (now (image .entry)) gauge register 0 (now (bytes .entry)) ⌝ }
+    ensures { λ w. ⌜ outcome w (now (image .exit)) ≡ writeBytes layout (now (image .entry)) gauge register 0 (now (bytes .entry)) ⌝ }
 {
     let mut next = gauge;
     let mut at = register;
     let mut i = 0;
     while i < bytes.len() {
-        let step = write_byte(layout, image, next, at, bytes[i]);
-        let error = step.error;
-        next = step.gauge;
+        let byte = write_byte(layout, image, next, at, bytes[i]);
+        let error = byte.error;
+        next = byte.gauge;
         if error == 0 {
             at += 1;
             i += 1;
@@ -144,7 +150,7 @@ fn write_bytes(
 
 // Writes bytes at a register and those after it.
 pub fn write(layout: Layout, image: &mut [u8], gauge: Gauge, register: u8, bytes: &[u8]) -> Written
-    ensures { λ w. ⌜ done w (now (image .exit)) ≡ write layout (now (image .entry)) gauge register (now (bytes .entry)) ⌝ }
+    ensures { λ w. ⌜ outcome w (now (image .exit)) ≡ write layout (now (image .entry)) gauge register (now (bytes .entry)) ⌝ }
 {
     let error = call_error(layout, image.len(), gauge, register, bytes.len());
     if error == 0 {

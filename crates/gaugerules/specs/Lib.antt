@@ -1,4 +1,3 @@
-pub mod Error
 pub mod State
 pub mod Valid
 pub mod Register
@@ -7,4 +6,6 @@ pub mod Transfer
 pub mod Write
 pub mod Read
 pub mod Script
+pub mod Table
 pub mod Laws
+pub mod Noninterference

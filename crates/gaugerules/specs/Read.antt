@@ -1,16 +1,17 @@
 -- A read. Document 01, "Transactions", "Reads: ..": it changes nothing but the buffer that is lent for the answer.
--- Assumes nothing.
 use Prim.Native.Nat.{ℕ, zero, suc, _+_, _/_, _%_}
-use mathlib.Core.Bool.{cond}
+use mathlib.Core.Bool.{Bool, cond}
 use mathlib.Core.List.{List, [], _∷_, _++_}
 use lib.Dec.{eqb, ltb}
 use lib.ListN.{length, getD, drop}
 use Rattle.checksum.specs.Checksum.{checksum}
-use Rattle.flashrules.specs.Answer.{shortBuffer}
+use Rattle.flashrules.specs.Error.{shortBuffer}
+use Rattle.flashrules.specs.Refusal.{firstError}
+use Rattle.flashrules.specs.Outcome.{Outcome, outcome}
 use Rattle.flashrules.specs.declared.layout.Layout.{Layout}
 use Rattle.gaugerules.specs.State.{isSealed}
 use Rattle.gaugerules.specs.Register.{registerOf}
-use Rattle.gaugerules.specs.Write.{callError}
+use Rattle.gaugerules.specs.Write.{callTests}
 use Rattle.gaugerules.specs.declared.state.Gauge.{Gauge}
 use Rattle.gaugerules.specs.declared.register.Register.{Register}
 use Rattle.gaugerules.specs.declared.answer.Reading.{Reading}
@@ -19,8 +20,8 @@ use Rattle.gaugerules.specs.declared.answer.Reading.{Reading}
 abbrev pub unlessSealed : Gauge → ℕ → ℕ
 unlessSealed g x = cond (isSealed g) 0 x
 
--- 01: "0x00, 0x01 the result, low byte first; 0x3E class and 0x61 BlockDataControl, both 0 when sealed; 0x3F block; 0x40 to 0x5F
--- window; 0x60 its checksum; every other register 0"
+-- 01: "0x00, 0x01 the result, low byte first; 0x3E class and 0x61 BlockDataControl, both 0 when sealed; 0x3F block;
+-- 0x40 to 0x5F window; 0x60 its checksum; every other register 0"
 unfoldable pub readAt : Register → Gauge → ℕ
 readAt Register.ControlLow g = g .result % 256
 readAt Register.ControlHigh g = g .result / 256
@@ -39,26 +40,19 @@ unfoldable pub readBytes : Gauge → ℕ → ℕ → List ℕ
 readBytes g r zero = []
 readBytes g r (suc n) = readByte g r ∷ readBytes g (r + 1) n
 
--- 01: "An accepted read takes n, a refused one 0."; with the whole buffer after it
-pub record Seen : Type 0 where
-  pub error : ℕ
-  pub accepted : ℕ
-  pub buffer : List ℕ
-
-unfoldable pub seen : Reading → List ℕ → Seen
-seen a buffer = record { error = a .error; accepted = a .accepted; buffer = buffer }
-
-abbrev pub answer : ℕ → ℕ → Reading
-answer e n = record { error = e; accepted = n }
+-- 01: "An accepted read takes n, a refused one 0."
+abbrev pub reading : ℕ → ℕ → Reading
+reading e n = record { error = e; accepted = n }
 
 -- 01: "Order for a transaction: 10, 15, 1, 14". The image has `size` bytes, the buffer `room`
+abbrev pub readTests : Layout → ℕ → Gauge → ℕ → ℕ → ℕ → List (Bool × ℕ)
+readTests l size g r n room = callTests l size g r n ++ ((ltb room n, shortBuffer) ∷ [])
+
 unfoldable pub readError : Layout → ℕ → Gauge → ℕ → ℕ → ℕ → ℕ
-readError l size g r n room =
-    let e = callError l size g r n in
-    cond (eqb e 0) (cond (ltb room n) shortBuffer 0) e
+readError l size g r n room = firstError (readTests l size g r n room)
 
 -- 14: "room untouched; if accepted, only past the answer"
-unfoldable pub read : Layout → List ℕ → Gauge → ℕ → ℕ → List ℕ → Seen
+unfoldable pub read : Layout → List ℕ → Gauge → ℕ → ℕ → List ℕ → Outcome Reading (List ℕ)
 read l image g r n buffer =
     let e = readError l (length image) g r n (length buffer) in
-    cond (eqb e 0) (seen (answer 0 n) (readBytes g r n ++ drop n buffer)) (seen (answer e 0) buffer)
+    cond (eqb e 0) (outcome (reading 0 n) (readBytes g r n ++ drop n buffer)) (outcome (reading e 0) buffer)

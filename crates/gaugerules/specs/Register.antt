@@ -1,5 +1,4 @@
 -- The registers: which number is which. Document 01, "Transactions", the table of bytes written.
--- Assumes nothing.
 use Prim.Native.Nat.{ℕ, _-_}
 use mathlib.Core.Bool.{cond}
 use lib.Dec.{eqb, ltb}

@@ -1,18 +1,20 @@
--- Scripts: a device is a gauge with the image that it is lent, a script is a list of calls on it. Document 01, "Two gauges, one script".
--- Assumes nothing.
+-- Scripts: a device is a gauge with the image that it is lent, a script is a list of calls on it. Document 01, "Two
+-- gauges, one script".
 use Prim.Native.Nat.{ℕ, _+_}
 use mathlib.Core.Bool.{Bool, false, cond, not}
 use mathlib.Core.List.{List, [], _∷_}
 use lib.Dec.{eqb}
 use lib.ListN.{take}
-use Rattle.flashrules.specs.Choice.{all}
+use Rattle.flashrules.specs.Outcome.{Outcome}
+use Rattle.flashrules.specs.Choice.{and}
 use Rattle.flashrules.specs.declared.layout.Layout.{Layout}
 use Rattle.gaugerules.specs.State.{isSealed}
 use Rattle.gaugerules.specs.Register.{controlLow, controlHigh}
 use Rattle.gaugerules.specs.Word.{word, statusWord, sealWord, resetWord, unsealKey, keys, isKey}
 use Rattle.gaugerules.specs.Write.{write}
-use Rattle.gaugerules.specs.Read.{Seen, answer, seen, read}
+use Rattle.gaugerules.specs.Read.{read}
 use Rattle.gaugerules.specs.declared.state.Gauge.{Gauge}
+use Rattle.gaugerules.specs.declared.answer.Reading.{Reading}
 
 pub record Device : Type 0 where
   pub gauge : Gauge
@@ -21,30 +23,38 @@ pub record Device : Type 0 where
 abbrev pub device : Gauge → List ℕ → Device
 device g image = record { gauge = g; image = image }
 
--- 01: "The calls of demand 3 are the write and the read.", "The list holds every register, every count, every byte to be written and every
--- reply room": a write at a register of its bytes; a read at a register of a count, into a buffer
+-- 01: "The calls of demand 3 are the write and the read.", "The list holds every register, every count, every byte to
+-- be written and every reply room": a write at a register of its bytes; a read at a register of a count, into a
+-- buffer
 pub data Call : Type 0 where
   toWrite : ℕ → List ℕ → Call
   toRead : ℕ → ℕ → List ℕ → Call
 
--- 01: "Compared are the refusal number, the count taken and, for a read, the room afterwards, with the bytes past the answer."
-unfoldable pub reply : Layout → Device → Call → Seen
-reply l d (toWrite r bytes) = let w = write l (d .image) (d .gauge) r bytes in seen (answer (w .error) (w .accepted)) []
-reply l d (toRead r n buffer) = read l (d .image) (d .gauge) r n buffer
+-- 01: "Compared are the refusal number, the count taken and, for a read, the room afterwards, with the bytes past the
+-- answer."
+pub data Reply : Type 0 where
+  ofWrite : ℕ → ℕ → Reply
+  ofRead : Outcome Reading (List ℕ) → Reply
+
+unfoldable pub reply : Layout → Device → Call → Reply
+reply l d (toWrite r bytes) =
+    let w = write l (d .image) (d .gauge) r bytes in ofWrite (w .answer .error) (w .answer .accepted)
+reply l d (toRead r n buffer) = ofRead (read l (d .image) (d .gauge) r n buffer)
 
 -- 01: "every call gets the record and image that the call before it left, refused or not"
-unfoldable pub next : Layout → Device → Call → Device
-next l d (toWrite r bytes) = let w = write l (d .image) (d .gauge) r bytes in device (w .gauge) (w .image)
-next l d (toRead r n buffer) = d
+unfoldable pub afterCall : Layout → Device → Call → Device
+afterCall l d (toWrite r bytes) = let w = write l (d .image) (d .gauge) r bytes in device (w .answer .gauge) (w .lent)
+afterCall l d (toRead r n buffer) = d
 
--- 01: "A write opens a sealed gauge when that gauge is no longer sealed after it, even if a later byte of it is refused."
+-- 01: "A write opens a sealed gauge when that gauge is no longer sealed after it, even if a later byte of it is
+-- refused."
 unfoldable pub unseals : Layout → Device → Call → Bool
-unseals l d c = all (isSealed (d .gauge) ∷ not (isSealed (next l d c .gauge)) ∷ [])
+unseals l d c = and (isSealed (d .gauge) ∷ not (isSealed (afterCall l d c .gauge)) ∷ [])
 
 -- ---- 01's other wording of it: "a byte taken at 0x01 makes a word, another word was obeyed before it, .."
 
--- the word that bytes make which were taken at r, r + 1 and so on, or none, since they pass 0x01 once or not at all; `low` is the low control
--- byte before them
+-- the word that bytes make which were taken at r, r + 1 and so on, or none, since they pass 0x01 once or not at all;
+-- `low` is the low control byte before them
 unfoldable pub made : ℕ → ℕ → List ℕ → List ℕ
 made low r [] = []
 made low r (b ∷ bs) =
@@ -53,15 +63,17 @@ made low r (b ∷ bs) =
 
 -- the word that a call makes, or none
 unfoldable pub obeyed : Layout → Device → Call → List ℕ
-obeyed l d (toWrite r bytes) = made (d .gauge .low) r (take (write l (d .image) (d .gauge) r bytes .accepted) bytes)
+obeyed l d (toWrite r bytes) =
+    made (d .gauge .low) r (take (write l (d .image) (d .gauge) r bytes .answer .accepted) bytes)
 obeyed l d (toRead r n buffer) = []
 
 -- "neither it nor the last one before it is 0x0000, 0x0020 or 0x0041"
 abbrev pub mayBeKey : ℕ → Bool
-mayBeKey w = all (not (eqb w statusWord) ∷ not (eqb w sealWord) ∷ not (eqb w resetWord) ∷ [])
+mayBeKey w = and (not (eqb w statusWord) ∷ not (eqb w sealWord) ∷ not (eqb w resetWord) ∷ [])
 
--- "and these two, as sent, are that gauge's own unseal key": the word that a call makes, `now`, and the last one of `past`
+-- "and these two, as sent, are that gauge's own unseal key": the word that a call makes, `now`, and the last one of
+-- `past`
 unfoldable pub entersKey : Layout → List ℕ → List ℕ → List ℕ → Bool
 entersKey l image [] past = false
 entersKey l image (w ∷ now) [] = false
-entersKey l image (w ∷ now) (u ∷ past) = all (mayBeKey u ∷ mayBeKey w ∷ isKey (keys l image) unsealKey u w ∷ [])
+entersKey l image (w ∷ now) (u ∷ past) = and (mayBeKey u ∷ mayBeKey w ∷ isKey (keys l image) unsealKey u w ∷ [])

@@ -1,13 +1,13 @@
 -- The state of a gauge: named numbers, tests, and the changes that the rules make. Document 01, "The gauge record".
 -- A field that is added to the record is added to the changes here and to nothing else.
--- Assumes nothing.
 use Prim.Native.Nat.{ℕ, _+_, _*_, _/_, _%_}
-use mathlib.Core.Bool.{Bool, false, cond}
+use mathlib.Core.Bool.{Bool, true, false, cond}
 use mathlib.Core.List.{List}
 use lib.Dec.{eqb}
 use lib.ListN.{replicate}
 use Rattle.flashrules.specs.Lookup.{blockSize}
 use Rattle.gaugerules.specs.declared.state.Gauge.{Gauge}
+use Rattle.gaugerules.specs.declared.state.Loaded.{Loaded}
 
 -- ---- named numbers
 
@@ -70,53 +70,82 @@ isFullAccess g = eqb (g .mode) fullAccess
 abbrev pub nonePending : Gauge → Bool
 nonePending g = eqb (g .pending) noWord
 
-abbrev pub noneLoaded : Gauge → Bool
-noneLoaded g = eqb (g .loaded) noBlock
-
 -- 01: "General access means not sealed and BlockDataControl 0."
 abbrev pub generalAccess : Gauge → Bool
 generalAccess g = cond (isSealed g) false (eqb (g .control) controlFlash)
 
--- a loaded block as one number, and its two parts
+-- ---- what is loaded
+
+-- a loaded block as one number
 abbrev pub packed : ℕ → ℕ → ℕ
 packed i b = 256 * i + b
 
-abbrev pub loadedClass : Gauge → ℕ
-loadedClass g = g .loaded / 256 % 256
+-- 01: "loaded block or none": none, or a block of a class
+unfoldable pub loadedOf : ℕ → Loaded
+loadedOf n = cond (eqb n noBlock) Loaded.None (Loaded.Block (n / 256 % 256) (n % 256))
 
-abbrev pub loadedBlock : Gauge → ℕ
-loadedBlock g = g .loaded % 256
+-- the rules go by its cases
+module _ {A : Type 0} where
+  abbrev pub ifLoaded : Loaded → A → (ℕ → ℕ → A) → A
+  ifLoaded Loaded.None x f = x
+  ifLoaded (Loaded.Block i b) x f = f i b
+
+abbrev pub noneLoaded : Gauge → Bool
+noneLoaded g = ifLoaded (loadedOf (g .loaded)) true (λ i b. false)
 
 -- ---- changes of one field
 
+abbrev pub gauge : ℕ → ℕ → ℕ → ℕ → ℕ → ℕ → ℕ → ℕ → ℕ → List ℕ → Gauge
+gauge m h l p r c i b n w = record {
+  mode = m;
+  boot = h;
+  low = l;
+  pending = p;
+  result = r;
+  control = c;
+  class = i;
+  block = b;
+  loaded = n;
+  window = w;
+}
+
 abbrev pub withMode : Gauge → ℕ → Gauge
-withMode g x = record { mode = x; boot = g .boot; low = g .low; pending = g .pending; result = g .result; control = g .control; class = g .class; block = g .block; loaded = g .loaded; window = g .window }
+withMode g x =
+    gauge x (g .boot) (g .low) (g .pending) (g .result) (g .control) (g .class) (g .block) (g .loaded) (g .window)
 
 abbrev pub withLow : Gauge → ℕ → Gauge
-withLow g x = record { mode = g .mode; boot = g .boot; low = x; pending = g .pending; result = g .result; control = g .control; class = g .class; block = g .block; loaded = g .loaded; window = g .window }
+withLow g x =
+    gauge (g .mode) (g .boot) x (g .pending) (g .result) (g .control) (g .class) (g .block) (g .loaded) (g .window)
 
 abbrev pub withPending : Gauge → ℕ → Gauge
-withPending g x = record { mode = g .mode; boot = g .boot; low = g .low; pending = x; result = g .result; control = g .control; class = g .class; block = g .block; loaded = g .loaded; window = g .window }
+withPending g x =
+    gauge (g .mode) (g .boot) (g .low) x (g .result) (g .control) (g .class) (g .block) (g .loaded) (g .window)
 
 abbrev pub withResult : Gauge → ℕ → Gauge
-withResult g x = record { mode = g .mode; boot = g .boot; low = g .low; pending = g .pending; result = x; control = g .control; class = g .class; block = g .block; loaded = g .loaded; window = g .window }
+withResult g x =
+    gauge (g .mode) (g .boot) (g .low) (g .pending) x (g .control) (g .class) (g .block) (g .loaded) (g .window)
 
 abbrev pub withControl : Gauge → ℕ → Gauge
-withControl g x = record { mode = g .mode; boot = g .boot; low = g .low; pending = g .pending; result = g .result; control = x; class = g .class; block = g .block; loaded = g .loaded; window = g .window }
+withControl g x =
+    gauge (g .mode) (g .boot) (g .low) (g .pending) (g .result) x (g .class) (g .block) (g .loaded) (g .window)
 
 abbrev pub withClass : Gauge → ℕ → Gauge
-withClass g x = record { mode = g .mode; boot = g .boot; low = g .low; pending = g .pending; result = g .result; control = g .control; class = x; block = g .block; loaded = g .loaded; window = g .window }
+withClass g x =
+    gauge (g .mode) (g .boot) (g .low) (g .pending) (g .result) (g .control) x (g .block) (g .loaded) (g .window)
 
 abbrev pub withBlock : Gauge → ℕ → Gauge
-withBlock g x = record { mode = g .mode; boot = g .boot; low = g .low; pending = g .pending; result = g .result; control = g .control; class = g .class; block = x; loaded = g .loaded; window = g .window }
+withBlock g x =
+    gauge (g .mode) (g .boot) (g .low) (g .pending) (g .result) (g .control) (g .class) x (g .loaded) (g .window)
 
 abbrev pub withLoaded : Gauge → ℕ → Gauge
-withLoaded g x = record { mode = g .mode; boot = g .boot; low = g .low; pending = g .pending; result = g .result; control = g .control; class = g .class; block = g .block; loaded = x; window = g .window }
+withLoaded g x =
+    gauge (g .mode) (g .boot) (g .low) (g .pending) (g .result) (g .control) (g .class) (g .block) x (g .window)
 
 abbrev pub withWindow : Gauge → List ℕ → Gauge
-withWindow g w = record { mode = g .mode; boot = g .boot; low = g .low; pending = g .pending; result = g .result; control = g .control; class = g .class; block = g .block; loaded = g .loaded; window = w }
+withWindow g x =
+    gauge (g .mode) (g .boot) (g .low) (g .pending) (g .result) (g .control) (g .class) (g .block) (g .loaded) x
 
--- ---- power-on, load and unload
+-- ---- power-on, restart, load and unload
 
 -- 01: "Home sealed starts sealed, home open starts in full access." Any other number is taken as sealed
 abbrev pub bootMode : ℕ → ℕ
@@ -127,7 +156,11 @@ bootOf boot = cond (eqb boot bootOpen) bootOpen bootSealed
 
 -- 01: "All else is 0, none loaded, none waiting, BlockDataControl 1."
 abbrev pub powerOn : ℕ → Gauge
-powerOn boot = record { mode = bootMode boot; boot = bootOf boot; low = 0; pending = noWord; result = 0; control = controlInfo; class = 0; block = 0; loaded = noBlock; window = zeroWindow }
+powerOn boot = gauge (bootMode boot) (bootOf boot) 0 noWord 0 controlInfo 0 0 noBlock zeroWindow
+
+-- 01: "record becomes that of power-on with ..": what sealing and reset leave of a gauge. Nothing of it outlasts them
+abbrev pub restart : Gauge → ℕ → Gauge
+restart g boot = powerOn boot
 
 -- 01: "Unload: none loaded, window zero, block 0."
 abbrev pub unload : Gauge → Gauge

@@ -1,15 +1,15 @@
 -- Control words: what a byte at 0x01 does. Document 01, "Transactions", "Words."
--- Assumes nothing.
 use Prim.Native.Nat.{ℕ, _+_, _*_, _/_, _%_}
 use mathlib.Core.Bool.{Bool, cond}
 use mathlib.Core.List.{List, [], _∷_}
 use lib.Dec.{eqb}
-use lib.ListN.{getD}
-use Rattle.flashrules.specs.Choice.{all}
+use lib.ListN.{take, drop}
+use Rattle.flashrules.specs.Choice.{differing}
 use Rattle.flashrules.specs.Layout.{keyClass}
 use Rattle.flashrules.specs.Image.{blockBytes}
 use Rattle.flashrules.specs.declared.layout.Layout.{Layout}
-use Rattle.gaugerules.specs.State.{unsealed, fullAccess, bootSealed, noWord, isSealed, isFullAccess, nonePending, withMode, withPending, withResult, powerOn}
+use Rattle.gaugerules.specs.State.{unsealed, fullAccess, bootSealed, noWord, isSealed, isFullAccess}
+use Rattle.gaugerules.specs.State.{nonePending, withMode, withPending, withResult, restart}
 use Rattle.gaugerules.specs.declared.state.Gauge.{Gauge}
 
 -- 01: "word = 256 x this + low byte"
@@ -56,15 +56,16 @@ keyBlock = 0
 abbrev pub keys : Layout → List ℕ → List ℕ
 keys l image = blockBytes l image keyClass keyBlock
 
--- 01: "the four bytes as sent, low byte first, against the four bytes in flash order", which begin at `at`
+abbrev pub keyLength : ℕ
+keyLength = 4
+
+-- 01: "the four bytes as sent, low byte first": those of two words
+abbrev pub asSent : ℕ → ℕ → List ℕ
+asSent u w = u % 256 ∷ u / 256 ∷ w % 256 ∷ w / 256 ∷ []
+
+-- 01: ".. against the four bytes in flash order", which begin at `at`: equal, so that they differ in no place
 unfoldable pub isKey : List ℕ → ℕ → ℕ → ℕ → Bool
-isKey bs at u w =
-    all
-    (eqb (getD bs at 0) (u % 256)
-    ∷ eqb (getD bs (at + 1) 0) (u / 256)
-    ∷ eqb (getD bs (at + 2) 0) (w % 256)
-    ∷ eqb (getD bs (at + 3) 0) (w / 256)
-    ∷ [])
+isKey bs at u w = eqb (differing (take keyLength (drop at bs)) (asSent u w)) 0
 
 -- 01: "if sealed (or unsealed) .. the unseal key (or full access key)", "mode becomes unsealed (or full access)"
 abbrev pub keyWanted : Gauge → ℕ
@@ -80,7 +81,8 @@ waits g w = withPending (withResult g 0) w
 abbrev pub opened : Gauge → Gauge
 opened g = withMode (waits g noWord) (modeOpened g)
 
--- 01: "if sealed (or unsealed) and a word is waiting, .. Equal: .. Otherwise this word waits. In full access none waits."
+-- 01: "if sealed (or unsealed) and a word is waiting, .. Equal: .. Otherwise this word waits. In full access none
+-- waits."
 unfoldable pub keyWord : Layout → List ℕ → Gauge → ℕ → Gauge
 keyWord l image g w =
     cond (isFullAccess g) (waits g noWord)
@@ -93,8 +95,9 @@ keyWord l image g w =
 abbrev pub withStatus : Gauge → Gauge
 withStatus g = withResult (withPending g noWord) (status g)
 
--- 01: "0x0020: record becomes that of power-on with home sealed. 0x0041: record becomes that of power-on with its own home."
+-- 01: "0x0020: record becomes that of power-on with home sealed. 0x0041: record becomes that of power-on with its own
+-- home."
 unfoldable pub obey : Layout → List ℕ → Gauge → ℕ → Gauge
 obey l image g w =
     cond (eqb w statusWord) (withStatus g)
-    (cond (eqb w sealWord) (powerOn bootSealed) (cond (eqb w resetWord) (powerOn (g .boot)) (keyWord l image g w)))
+    (cond (eqb w sealWord) (restart g bootSealed) (cond (eqb w resetWord) (restart g (g .boot)) (keyWord l image g w)))

@@ -2,7 +2,7 @@
 use crate::state::Gauge;
 
 // After one byte of a write.
-pub struct Step {
+pub struct ByteWritten {
     pub error: u8,
     pub gauge: Gauge,
 }
@@ -21,20 +21,3 @@ pub struct Reading {
     pub error: u8,
     pub accepted: usize,
 }
-
-// The refusals of a transaction. 4, 5, 10 and 14 are in crate `flashrules`.
-pub const INVALID_SPAN: u8 = 1;
-
-pub const READ_ONLY: u8 = 2;
-
-pub const SEALED_REGISTER: u8 = 3;
-
-pub const NOTHING_LOADED: u8 = 6;
-
-pub const PROTECTED_BLOCK: u8 = 7;
-
-pub const WRONG_CHECKSUM: u8 = 8;
-
-pub const INVALID_CONTROL: u8 = 9;
-
-pub const INVALID_GAUGE: u8 = 15;

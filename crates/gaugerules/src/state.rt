@@ -30,6 +30,12 @@ pub const INFO_BLOCKS: u8 = 3;
 
 pub const BLOCK_A: u8 = 0;
 
+// What is in the window, as the rules go by it: a view of the number that a gauge holds.
+pub enum Loaded {
+    None,
+    Block { class: u8, block: u8 },
+}
+
 #[repr(C)]
 pub struct Gauge {
     pub mode: u8,

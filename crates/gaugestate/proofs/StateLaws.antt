@@ -1,5 +1,4 @@
 -- Laws of the state: records that are put together with what calls gave, and the tests of a valid gauge.
--- Assumes nothing.
 use Prim.Native.Nat.{ℕ, _+_, _≤_, _<_}
 use mathlib.Core.Path.{_≡_}
 use mathlib.Core.Bool.{Bool, true, false, cond}
@@ -9,12 +8,15 @@ use native.Mathlib.Omega.{arith}
 use lib.Dec.{eqb, leb}
 use lib.ListN.{length, drop, getD, drop-of-length-le}
 use lib.Seq.{drop-cons}
+use mir.Syntax.{w8}
+use mir.Val.{Fits}
 use borrow.Author.Tests.{eq-eqb, ne-eqb, le-leb}
-use Rattle.flashrules.specs.Choice.{all}
-use Rattle.flashrules.specs.Lookup.{blockSize, blockExists}
+use Rattle.flashrules.specs.Choice.{and}
+use Rattle.flashrules.specs.Lookup.{blockSize}
 use Rattle.flashrules.specs.Image.{maxByte}
-use Rattle.flashrules.specs.declared.layout.Layout.{Layout}
-use Rattle.gaugerules.specs.State.{fullAccess, bootOpen, noWord, noBlock, controlInfo, zeroWindow, bootMode, bootOf, powerOn, packed, loadedClass, loadedBlock, withBlock, withLoaded, withWindow, load}
+use Rattle.flashrules.proofs.BytesLaws.{are-bytes}
+use Rattle.gaugerules.specs.State.{fullAccess, bootOpen, noWord, noBlock, controlInfo, zeroWindow, bootMode, bootOf, powerOn}
+use Rattle.gaugerules.specs.State.{packed, withBlock, withLoaded, withWindow, load}
 use Rattle.gaugerules.specs.Valid.{maxWord, inRange, isZero}
 use Rattle.gaugerules.specs.declared.state.Gauge.{Gauge}
 
@@ -28,13 +30,19 @@ loads g byte i b n w p = rw p
 -- ---- a valid gauge
 
 pub in-range-by : (g : Gauge) (t : Bool)
-    → t ≡ all (leb (g .mode) fullAccess ∷ leb (g .boot) bootOpen ∷ leb (g .pending) noWord ∷ leb (g .control) controlInfo ∷ leb (g .loaded) noBlock ∷ [])
-    → g .low ≤ maxByte → g .result ≤ maxWord → g .class ≤ maxByte → g .block ≤ maxByte → length (g .window) ≡ blockSize → t ≡ inRange g
+    → t ≡ and (leb (g .mode) fullAccess ∷ leb (g .boot) bootOpen ∷ leb (g .pending) noWord ∷ leb (g .control) controlInfo ∷ leb (g .loaded) noBlock ∷ [])
+    → g .low ≤ maxByte → g .result ≤ maxWord → g .class ≤ maxByte → g .block ≤ maxByte → length (g .window) ≡ blockSize
+    → ((k : ℕ) → Fits w8 (getD (g .window) k 0)) → t ≡ inRange g
 unfolding inRange
-in-range-by g t e low result class block window = rw (le-leb _ _ low, le-leb _ _ result, le-leb _ _ class, le-leb _ _ block, eq-eqb _ _ window) e
-
-pub exists-by : (l : Layout) (g : Gauge) (t : Bool) (i b : ℕ) → i ≡ loadedClass g → b ≡ loadedBlock g → t ≡ blockExists l i b → t ≡ blockExists l (loadedClass g) (loadedBlock g)
-exists-by l g t i b p q e = rw (p, q) at e
+in-range-by g t e low result class block window bytes =
+    rw (
+      le-leb _ _ low,
+      le-leb _ _ result,
+      le-leb _ _ class,
+      le-leb _ _ block,
+      eq-eqb _ _ window,
+      are-bytes (g .window) (λ k. omega (arith, bytes k .fits)),
+    ) e
 
 -- the loop over a window: `e` is its invariant
 module _ (w : List ℕ) (k : ℕ) (z : Bool) (whole : length w ≡ blockSize) (e : isZero (drop k w) ≡ z) where

@@ -6,12 +6,12 @@ use gaugerules::state::CONTROL_FLASH;
 use gaugerules::state::CONTROL_INFO;
 use gaugerules::state::FULL_ACCESS;
 use gaugerules::state::Gauge;
+use gaugerules::state::Loaded;
 use gaugerules::state::NO_BLOCK;
 use gaugerules::state::NO_WORD;
 use gaugerules::state::SEALED;
 ghost use mathlib.Core.Path.{_≡_};
-ghost use Prim.Native.Nat.{_+_, _*_, _<_};
-ghost use Rattle.gaugerules.specs.State.{bootMode, bootOf, powerOn, generalAccess, loadedClass, loadedBlock, unload, load};
+ghost use Rattle.gaugerules.specs.State.{bootMode, bootOf, powerOn, restart, generalAccess, loadedOf, packed, unload, load};
 
 fn boot_mode(boot: u8) -> u8
     ensures { λ r. ⌜ r ≡ bootMode boot ⌝ }
@@ -51,6 +51,13 @@ pub fn power_on(boot: u8) -> Gauge
     }
 }
 
+// What sealing and reset leave of a gauge: power-on, since nothing of it outlasts them.
+pub fn restart(gauge: Gauge, boot: u8) -> Gauge
+    ensures { λ r. ⌜ r ≡ restart gauge boot ⌝ }
+{
+    power_on(boot)
+}
+
 // Not sealed, and the data flash selected.
 pub fn general_access(gauge: Gauge) -> bool
     ensures { λ r. ⌜ r ≡ generalAccess gauge ⌝ }
@@ -61,31 +68,24 @@ pub fn general_access(gauge: Gauge) -> bool
     gauge.control == CONTROL_FLASH
 }
 
-// A number of 8 bits among wider ones.
-pub fn wide(x: u8) -> u32
-    ensures { λ r. ⌜ (r ≡ x) × (r < 256) ⌝ }
+// What is loaded.
+pub fn loaded(gauge: Gauge) -> Loaded
+    ensures { λ r. ⌜ r ≡ loadedOf (gauge .loaded) ⌝ }
 {
-    x as u32
+    if gauge.loaded == NO_BLOCK {
+        return Loaded::None;
+    }
+    Loaded::Block {
+        class: ((gauge.loaded / 256) % 256) as u8,
+        block: (gauge.loaded % 256) as u8,
+    }
 }
 
-// Two bytes as one number: a control word, or a loaded block.
-pub fn join(high: u8, low: u8) -> u32
-    ensures { λ r. ⌜ r ≡ 256 * high + low ⌝ }
+// A block of a class as one number.
+fn packed(class: u8, block: u8) -> u32
+    ensures { λ r. ⌜ r ≡ packed class block ⌝ }
 {
-    256 * wide(high) + wide(low)
-}
-
-// The two parts of a loaded block.
-pub fn loaded_class(gauge: Gauge) -> u8
-    ensures { λ r. ⌜ r ≡ loadedClass gauge ⌝ }
-{
-    ((gauge.loaded / 256) % 256) as u8
-}
-
-pub fn loaded_block(gauge: Gauge) -> u8
-    ensures { λ r. ⌜ r ≡ loadedBlock gauge ⌝ }
-{
-    (gauge.loaded % 256) as u8
+    256 * (class as u32) + (block as u32)
 }
 
 // Nothing is loaded any more.
@@ -105,7 +105,7 @@ pub fn load(gauge: Gauge, byte: u8, class: u8, block: u8, window: [u8; BLOCK_SIZ
 {
     let mut next = gauge;
     next.block = byte;
-    next.loaded = join(class, block);
+    next.loaded = packed(class, block);
     next.window = window;
     next
 }

@@ -1,6 +1,5 @@
 // Whether a gauge is valid for a layout (document 01: sound). Numbers that their type keeps in range are not tested.
-use crate::state::loaded_block;
-use crate::state::loaded_class;
+use crate::state::loaded;
 use flashrules::layout::INFO_CLASS;
 use flashrules::layout::Layout;
 use flashrules::lookup::BLOCK_SIZE;
@@ -9,6 +8,7 @@ use gaugerules::state::CONTROL_INFO;
 use gaugerules::state::FULL_ACCESS;
 use gaugerules::state::Gauge;
 use gaugerules::state::INFO_BLOCKS;
+use gaugerules::state::Loaded;
 use gaugerules::state::NO_BLOCK;
 use gaugerules::state::NO_WORD;
 use gaugerules::state::SEALED;
@@ -16,13 +16,13 @@ use layout::lookup::block_exists;
 ghost use mathlib.Core.Path.{_≡_};
 ghost use mathlib.Core.List.{[], _∷_};
 ghost use lib.Dec.{leb};
-ghost use Rattle.flashrules.specs.Choice.{all};
+ghost use Rattle.flashrules.specs.Choice.{and};
 ghost use Rattle.gaugerules.specs.State.{fullAccess, bootOpen, noWord, noBlock, controlInfo};
 ghost use Rattle.gaugerules.specs.Valid.{inRange, isZero, loadedValid, pendingValid, onlyInfoLoaded, sealedValid, valid};
 
 // The numbers of which a type holds more than a gauge may have.
 fn few_in_range(mode: u8, boot: u8, pending: u32, control: u8, loaded: u32) -> bool
-    ensures { λ r. ⌜ r ≡ all (leb mode fullAccess ∷ leb boot bootOpen ∷ leb pending noWord ∷ leb control controlInfo ∷ leb loaded noBlock ∷ []) ⌝ }
+    ensures { λ r. ⌜ r ≡ and (leb mode fullAccess ∷ leb boot bootOpen ∷ leb pending noWord ∷ leb control controlInfo ∷ leb loaded noBlock ∷ []) ⌝ }
 {
     if mode <= FULL_ACCESS {
         if boot <= BOOT_OPEN {
@@ -67,11 +67,11 @@ fn is_zero(window: [u8; BLOCK_SIZE]) -> bool
 fn loaded_valid(layout: Layout, gauge: Gauge) -> bool
     ensures { λ r. ⌜ r ≡ loadedValid layout gauge ⌝ }
 {
-    if gauge.loaded == NO_BLOCK {
+    let Loaded::Block { class, block } = loaded(gauge) else {
         let window = gauge.window;
         return is_zero(window);
-    }
-    block_exists(layout, loaded_class(gauge), loaded_block(gauge))
+    };
+    block_exists(layout, class, block)
 }
 
 // No word is pending in full access.
@@ -87,11 +87,11 @@ fn pending_valid(gauge: Gauge) -> bool
 fn only_info_loaded(gauge: Gauge) -> bool
     ensures { λ r. ⌜ r ≡ onlyInfoLoaded gauge ⌝ }
 {
-    if gauge.loaded == NO_BLOCK {
+    let Loaded::Block { class, block } = loaded(gauge) else {
         return true;
-    }
-    if loaded_class(gauge) == INFO_CLASS {
-        return loaded_block(gauge) < INFO_BLOCKS;
+    };
+    if class == INFO_CLASS {
+        return block < INFO_BLOCKS;
     }
     false
 }

@@ -1,15 +1,15 @@
 -- Laws of digits, and of the loops that write and read them.
--- Assumes nothing.
-use Prim.Native.Nat.{ℕ, zero, suc, _+_, _*_, _/_, _%_, _≤_, _<_}
-use mathlib.Core.Path.{_≡_, refl, ap}
+use Prim.Native.Nat.{ℕ, zero, suc, _+_, _-_, _*_, _/_, _%_, _≤_, _<_}
+use mathlib.Core.Path.{_≡_, refl, ap, _∙_}
 use mathlib.Core.List.{List, [], _∷_, _++_}
 use native.Mathlib.Omega.{arith}
 use native.Mathlib.Decide.{decLt}
-use lib.ListN.{length, drop, set, getD, length-drop, drop-of-length-le}
+use lib.ListN.{length, drop, set, getD, length-append, length-drop, drop-of-length-le}
 use lib.Seq.{sets, drop-cons}
 use borrow.Author.Tests.{lt-ltb, le-ltb}
-use Rattle.hextext.specs.Hex.{digit, value, pair, hex, unhex}
-use Rattle.hextext.specs.Laws.{HexBack, HexLength, UnhexBytes}
+use Rattle.hextext.specs.Hex.{digit, value, pair, hex, unhex, lineFeed, hexLine}
+use Rattle.hextext.specs.Laws.{HexBack, HexLength, UnhexBytes, LineLength}
+use Rattle.hextext.proofs.StoreLaws.{sets-out, sets-on}
 
 -- ---- one digit
 
@@ -92,6 +92,29 @@ module _ (bs r z : List ℕ) (i out : ℕ) (e : sets r out (hex (drop i bs)) ≡
 
   pub encode-end : length bs ≤ i → r ≡ z
   encode-end h = rw (drop-of-length-le bs h) at e
+
+-- ---- a line: its bytes are stored, and then the line feed
+
+pub line-length : LineLength
+line-length bs = length-append (hex bs) (lineFeed ∷ []) ∙ rw (hex-length bs)
+
+module _ (bs r r′ : List ℕ) (at : ℕ) (p : r′ ≡ sets r at (hex bs)) where
+  -- one store behind the bytes makes the line
+  line-end : sets r′ (at + 2 * length bs) (lineFeed ∷ []) ≡ sets r at (hexLine bs)
+  line-end = sets-on r r′ at (at + 2 * length bs) (hex bs) (lineFeed ∷ []) p (rw (hex-length bs))
+
+  pub line-stored : (z : List ℕ) → z ≡ sets r′ (at + 2 * length bs) (lineFeed ∷ []) → z ≡ sets r at (hexLine bs)
+  line-stored z e = e ∙ line-end
+
+  -- there is no room for it
+  full : length r′ ≤ at + 2 * length bs → r′ ≡ sets r at (hexLine bs)
+  full h = sets-out r′ (at + 2 * length bs) (lineFeed ∷ []) h ∙ line-end
+
+  pub line-outside : length r′ ≤ at → r′ ≡ sets r at (hexLine bs)
+  line-outside h = full (omega arith)
+
+  pub line-cut : (length r′ - at) / 2 < length bs → r′ ≡ sets r at (hexLine bs)
+  line-cut h = full (omega arith)
 
 -- ---- the loop that reads
 

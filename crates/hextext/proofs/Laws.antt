@@ -1,3 +1,2 @@
 -- The claims of specs/Laws.antt, proved: what crates above cite. Each proof stands with the laws that it rests on.
--- Assumes nothing.
-pub use Rattle.hextext.proofs.HexLaws.{hex-back, hex-length, unhex-bytes}
+pub use Rattle.hextext.proofs.HexLaws.{hex-back, hex-length, unhex-bytes, line-length}

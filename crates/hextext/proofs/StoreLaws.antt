@@ -1,5 +1,4 @@
 -- Stores one after the other into a buffer, by the library's `sets`: what every writer's proof cites.
--- Assumes nothing.
 use Prim.Native.Nat.{ℕ, suc, _+_, _≤_}
 use mathlib.Core.Path.{_≡_, refl, sym, _∙_}
 use mathlib.Core.List.{List, [], _∷_, _++_}

@@ -1,8 +1,7 @@
 -- Upper-case hexadecimal, both ways. Document 01, "Image file": "Two upper-case digits a byte".
--- Assumes nothing.
 use Prim.Native.Nat.{ℕ, _+_, _*_, _/_, _%_}
 use mathlib.Core.Bool.{cond}
-use mathlib.Core.List.{List, [], _∷_}
+use mathlib.Core.List.{List, [], _∷_, _++_}
 use lib.Dec.{ltb}
 
 -- the digit of a number's low four bits: 0 to 9 from character 48 on, A to F from 65 on
@@ -27,3 +26,12 @@ abbrev pub unhex : List ℕ → List ℕ
 unhex [] = []
 unhex (a ∷ []) = []
 unhex (a ∷ b ∷ cs) = pair a b ∷ unhex cs
+
+-- ---- lines
+
+abbrev pub lineFeed : ℕ
+lineFeed = 10
+
+-- "each line ended by one line feed": the line of some bytes
+abbrev pub hexLine : List ℕ → List ℕ
+hexLine bs = hex bs ++ (lineFeed ∷ [])

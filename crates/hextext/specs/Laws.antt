@@ -1,10 +1,9 @@
 -- What the definitions amount to. proofs/Laws.antt has a proof of each claim, under its name in small letters.
--- Assumes nothing.
-use Prim.Native.Nat.{ℕ, _*_, _≤_}
+use Prim.Native.Nat.{ℕ, _+_, _*_, _≤_}
 use mathlib.Core.Path.{_≡_}
 use mathlib.Core.List.{List}
 use lib.ListN.{length, getD}
-use Rattle.hextext.specs.Hex.{hex, unhex}
+use Rattle.hextext.specs.Hex.{hex, unhex, hexLine}
 
 -- the text of bytes stands for those bytes
 abbrev pub HexBack : Type 0
@@ -16,3 +15,6 @@ HexLength = (bs : List ℕ) → length (hex bs) ≡ 2 * length bs
 -- any text stands for bytes
 abbrev pub UnhexBytes : Type 0
 UnhexBytes = (x : List ℕ) (k : ℕ) → getD (unhex x) k 0 ≤ 255
+
+abbrev pub LineLength : Type 0
+LineLength = (bs : List ℕ) → length (hexLine bs) ≡ 2 * length bs + 1

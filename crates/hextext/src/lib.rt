@@ -5,7 +5,9 @@ ghost use mathlib.Core.Path.{_≡_};
 ghost use mathlib.Core.List.{[], _∷_};
 ghost use Prim.Native.Nat.{_+_, _*_, _<_};
 ghost use lib.Seq.{sets};
-ghost use Rattle.hextext.specs.Hex.{digit, value, pair, hex, unhex};
+ghost use Rattle.hextext.specs.Hex.{digit, value, pair, hex, unhex, hexLine};
+
+pub const LINE_FEED: u8 = 10;
 
 // The digit of a number's low four bits.
 fn digit(n: u8) -> u8
@@ -64,6 +66,20 @@ pub fn encode(bytes: &[u8], buffer: &mut [u8], at: usize)
         out += 2;
         i += 1;
     }
+}
+
+// A line of bytes, two digits each, and a line feed.
+pub fn encode_line(bytes: &[u8], buffer: &mut [u8], at: usize)
+    ensures { λ _. ⌜ now (buffer .exit) ≡ sets (now (buffer .entry)) at (hexLine (now (bytes .entry))) ⌝ }
+{
+    encode(bytes, buffer, at);
+    if buffer.len() <= at {
+        return;
+    }
+    if (buffer.len() - at) / 2 < bytes.len() {
+        return;
+    }
+    store(LINE_FEED, buffer, at + 2 * bytes.len());
 }
 
 // The bytes that a text's pairs of digits stand for; an odd last byte of the text counts for nothing.

@@ -1,5 +1,4 @@
 -- Laws of the calls: a text judged by the text that is written again, and the answers.
--- Assumes nothing.
 use Prim.Native.Nat.{ℕ, _-_, _≤_, _<_}
 use mathlib.Core.Path.{_≡_, refl, sym, _∙_}
 use mathlib.Core.Bool.{Bool, true, false, cond, true≢false}
@@ -9,14 +8,15 @@ use native.Mathlib.Omega.{arith}
 use lib.ListN.{length, take, drop}
 use lib.Seq.{sets, sets-eq, take-length, length-take-le}
 use borrow.Author.Tests.{lt-ltb, le-ltb}
-use Rattle.flashrules.specs.Answer.{invalidLayout, shortBuffer}
+use Rattle.flashrules.specs.Error.{malformed, shortBuffer}
+use Rattle.flashrules.specs.Outcome.{outcome}
 use Rattle.flashrules.specs.Choice.{same}
 use Rattle.flashrules.specs.Layout.{noClasses}
 use Rattle.flashrules.specs.declared.layout.Layout.{Layout}
 use Rattle.flashrules.proofs.Picks.{same-refl, same-eq, on-test}
-use Rattle.imagerules.specs.Text.{textOf, maxText}
-use Rattle.imagerules.specs.Guess.{content, guess}
-use Rattle.imagerules.specs.File.{holds, accepted, refused, judge, checkError, outcome, notRead, read, write}
+use Rattle.imagerules.specs.Text.{serializeImage, maxText}
+use Rattle.imagerules.specs.Candidate.{content, candidate}
+use Rattle.imagerules.specs.File.{holds, imageFile, noImageFile, parseImage, checkError, notRead, read, write}
 use Rattle.imagerules.specs.declared.answer.FileRead.{FileRead}
 use Rattle.imagerules.specs.declared.answer.FileWritten.{FileWritten}
 use Rattle.imagerules.proofs.CallLaws.{wrote, not-wrote}
@@ -41,42 +41,42 @@ module _ (l : Layout) (image x r r′ : List ℕ) (w : FileWritten) (p : outcome
   unfolding holds
   text-is e u f g =
       let v = wrote l image r r′ w p e in
-      let t : take (w .length - 0) r′ ≡ textOf l image = rw sub-zero (v .text) in
-      rw (v .fit) (same-is (textOf l image) x u (λ a. sym t ∙ f a) (λ a. g (t ∙ a)))
+      let t : take (w .length - 0) r′ ≡ serializeImage l image = rw sub-zero (v .text) in
+      rw (v .fit) (same-is (serializeImage l image) x u (λ a. sym t ∙ f a) (λ a. g (t ∙ a)))
 
--- the judgement of a guess, whose bytes are a part that was lent
-pub judged : (l : Layout) (d x : List ℕ) (n : ℕ) (t : Bool) → content l (take n d) ≡ guess x
-    → t ≡ holds (content l (take (n - 0) (drop 0 d))) x → t ≡ holds (guess x) x
-judged l d x n t e p = rw (sub-zero, e) at p
+-- a text held to its candidate, whose bytes are a part that was lent
+pub parsed-by : (l : Layout) (d x : List ℕ) (n : ℕ) (t : Bool) → content l (take n d) ≡ candidate x
+    → t ≡ holds (content l (take (n - 0) (drop 0 d))) x → t ≡ holds (candidate x) x
+parsed-by l d x n t e p = rw (sub-zero, e) at p
 
-module _ (x : List ℕ) (t : Bool) (p : t ≡ holds (guess x) x) where
-  judge-bad : t ≡ false → judge x ≡ refused
-  unfolding judge
-  judge-bad q = rw (← p, q)
+module _ (x : List ℕ) (t : Bool) (p : t ≡ holds (candidate x) x) where
+  parse-bad : t ≡ false → parseImage x ≡ noImageFile
+  unfolding parseImage
+  parse-bad q = rw (← p, q)
 
-  judge-good : (l : Layout) (image : List ℕ) → t ≡ true → content l image ≡ guess x → judge x ≡ accepted l image
-  unfolding judge
-  judge-good l image q e = rw (← p, q, ← e)
+  parse-good : (l : Layout) (image : List ℕ) → t ≡ true → content l image ≡ candidate x → parseImage x ≡ imageFile l image
+  unfolding parseImage
+  parse-good l image q e = rw (← p, q, ← e)
 
-  pub check-bad : t ≡ false → invalidLayout ≡ checkError (judge x)
-  check-bad q = rw (judge-bad q)
+  pub check-bad : t ≡ false → malformed ≡ checkError (parseImage x)
+  check-bad q = rw (parse-bad q)
 
-  pub check-good : (l : Layout) (image : List ℕ) → t ≡ true → content l image ≡ guess x → 0 ≡ checkError (judge x)
-  check-good l image q e = rw (judge-good l image q e)
+  pub check-good : (l : Layout) (image : List ℕ) → t ≡ true → content l image ≡ candidate x → 0 ≡ checkError (parseImage x)
+  check-good l image q e = rw (parse-good l image q e)
 
 -- ---- reading
 
 pub not-read : (e : ℕ) (l : Layout) → l ≡ noClasses → record { error = e; layout = l; length = 0 } ≡ notRead e
 not-read e l p = rw p
 
-module _ (x r : List ℕ) (t : Bool) (p : t ≡ holds (guess x) x) where
-  pub read-bad : (a : FileRead) → t ≡ false → a ≡ notRead invalidLayout → outcome a r ≡ read x r
+module _ (x r : List ℕ) (t : Bool) (p : t ≡ holds (candidate x) x) where
+  pub read-bad : (a : FileRead) → t ≡ false → a ≡ notRead malformed → outcome a r ≡ read x r
   unfolding read
-  read-bad a q e = rw (judge-bad x t p q, e)
+  read-bad a q e = rw (parse-bad x t p q, e)
 
-  module _ (q : t ≡ true) (l : Layout) (d : List ℕ) (n : ℕ) (e : content l (take n d) ≡ guess x) (h : n ≤ length d) where
-    good : judge x ≡ accepted l (take n d)
-    good = judge-good x t p l (take n d) q e
+  module _ (q : t ≡ true) (l : Layout) (d : List ℕ) (n : ℕ) (e : content l (take n d) ≡ candidate x) (h : n ≤ length d) where
+    good : parseImage x ≡ imageFile l (take n d)
+    good = parse-good x t p l (take n d) q e
 
     long : length (take n d) ≡ n
     long = length-take-le n d h

@@ -1,2 +1,2 @@
 pub mod FileLaws
-pub mod GuessLaws
+pub mod CandidateLaws

@@ -1,16 +1,16 @@
 // An image file is judged and read. Refusals come in the order 10, 14; a refused call leaves the lent buffer untouched.
 //
-// Reading takes a guess at what a text holds, asking hardly anything of it, writes the text of that guess and compares. So what is
+// Reading takes a candidate for what a text holds, asking hardly anything of it, writes the text of that candidate and compares. So what is
 // accepted is written out as the very same text by construction; order, gaps, checksums, case and line ends are judged by the
 // one function that writes them. No more than 160 lines are looked at, so a text costs its length once, to find line feeds in it.
-mod guess;
+mod candidate;
 
-use crate::guess::guess;
-use crate::guess::no_classes;
+use crate::candidate::candidate;
+use crate::candidate::no_classes;
+use flashrules::error::MALFORMED;
+use flashrules::error::SHORT_BUFFER;
 use flashrules::layout::Layout;
 use flashrules::lookup::BLOCK_SIZE;
-use flashrules::lookup::INVALID_LAYOUT;
-use flashrules::lookup::SHORT_BUFFER;
 use imagerules::answer::FileRead;
 use imagerules::text::MAX_LINES;
 use imagerules::text::MAX_TEXT;
@@ -18,13 +18,14 @@ use imagewriter::write;
 ghost use mathlib.Core.Path.{_≡_};
 ghost use Prim.Native.Nat.{_*_, _≤_};
 ghost use lib.ListN.{length, take};
+ghost use Rattle.flashrules.specs.Outcome.{outcome};
 ghost use Rattle.flashrules.specs.Lookup.{blockSize};
 ghost use Rattle.imagerules.specs.Text.{maxLines};
-ghost use Rattle.imagerules.specs.Guess.{content, guess};
-ghost use Rattle.imagerules.specs.File.{holds, judge, checkError, outcome, notRead, read};
+ghost use Rattle.imagerules.specs.Candidate.{content, candidate};
+ghost use Rattle.imagerules.specs.File.{holds, parseImage, checkError, notRead, read};
 
-// Whether a guess holds of its text, and the guess.
-pub(crate) struct Judgement {
+// Whether a candidate holds of its text, and the candidate.
+pub(crate) struct Parsed {
     pub good: bool,
     pub layout: Layout,
     pub length: usize,
@@ -44,17 +45,17 @@ fn is_text_of(layout: Layout, image: &[u8], text: &[u8]) -> bool
 }
 
 // What a text holds, if it holds it; the image is put in front of a buffer.
-fn judge(text: &[u8], buffer: &mut [u8]) -> Judgement
+fn parse(text: &[u8], buffer: &mut [u8]) -> Parsed
     requires { ⌜ maxLines * blockSize ≤ length (now buffer) ⌝ }
-    ensures { λ r. ⌜ r .good ≡ holds (guess (now (text .entry))) (now (text .entry)) ⌝ }
-    ensures { λ r. ⌜ content (r .layout) (take (r .length) (now (buffer .exit))) ≡ guess (now (text .entry)) ⌝ }
+    ensures { λ r. ⌜ r .good ≡ holds (candidate (now (text .entry))) (now (text .entry)) ⌝ }
+    ensures { λ r. ⌜ content (r .layout) (take (r .length) (now (buffer .exit))) ≡ candidate (now (text .entry)) ⌝ }
     ensures { λ r. ⌜ r .length ≤ length (now (buffer .exit)) ⌝ }
 {
-    let found = guess(text, buffer);
+    let found = candidate(text, buffer);
     let length = found.length;
     let layout = found.layout;
     let good = is_text_of(layout, &buffer[0..length], text);
-    Judgement {
+    Parsed {
         good,
         layout,
         length,
@@ -63,11 +64,11 @@ fn judge(text: &[u8], buffer: &mut [u8]) -> Judgement
 
 // 0 for an image file, 10 for any other text.
 pub fn check(text: &[u8]) -> u8
-    ensures { λ r. ⌜ r ≡ checkError (judge (now (text .entry))) ⌝ }
+    ensures { λ r. ⌜ r ≡ checkError (parseImage (now (text .entry))) ⌝ }
 {
     let mut image = [0u8; MAX_LINES * BLOCK_SIZE];
-    let found = judge(text, &mut image);
-    if found.good { 0 } else { INVALID_LAYOUT }
+    let found = parse(text, &mut image);
+    if found.good { 0 } else { MALFORMED }
 }
 
 fn not_read(error: u8) -> FileRead
@@ -85,7 +86,7 @@ pub fn read(text: &[u8], buffer: &mut [u8]) -> FileRead
     ensures { λ r. ⌜ outcome r (now (buffer .exit)) ≡ read (now (text .entry)) (now (buffer .entry)) ⌝ }
 {
     let mut image = [0u8; MAX_LINES * BLOCK_SIZE];
-    let found = judge(text, &mut image);
+    let found = parse(text, &mut image);
     if found.good {
         let n = found.length;
         if buffer.len() < n {
@@ -99,5 +100,5 @@ pub fn read(text: &[u8], buffer: &mut [u8]) -> FileRead
             length: n,
         };
     }
-    not_read(INVALID_LAYOUT)
+    not_read(MALFORMED)
 }

@@ -1,5 +1,4 @@
 -- Every block of a layout has its line in the text: the line is a part of the text of its class, and that of the text of the image.
--- Assumes nothing.
 use Prim.Native.Nat.{ℕ, zero, suc, _+_, _*_, _<_}
 use mathlib.Core.Path.{_≡_, refl, sym}
 use mathlib.Core.Bool.{true, false, true≢false}
@@ -18,7 +17,7 @@ use Rattle.flashrules.proofs.Picks.{on-test, on-answer}
 use Rattle.flashrules.proofs.LayoutLaws.{fits-parts}
 use Rattle.flashrules.proofs.Laws.{exists-found}
 use Rattle.flashrules.proofs.LookupLaws.{locate-inside, placed}
-use Rattle.imagerules.specs.Text.{line, linesFrom, classText, classTexts, textOf}
+use Rattle.imagerules.specs.Text.{line, blockLines, classText, classTexts, serializeImage}
 use Rattle.imagerules.specs.Laws.{PartOf, BlockLine}
 use Rattle.imagerules.proofs.TextLaws.{take-part, lines-some}
 
@@ -36,8 +35,8 @@ module _ {p x : List ℕ} (z : List ℕ) (h : PartOf p x) where
 
 -- a part of what follows the first line
 block-behind : (b i c : ℕ) (bytes : List ℕ) → blockSize * suc b < length bytes
-    → PartOf (line i (c + 1 + b) (take blockSize (drop (blockSize * b) (drop blockSize bytes)))) (linesFrom i (c + 1) (drop blockSize bytes))
-    → PartOf (line i (c + suc b) (take blockSize (drop (blockSize * suc b) bytes))) (linesFrom i c bytes)
+    → PartOf (line i (c + 1 + b) (take blockSize (drop (blockSize * b) (drop blockSize bytes)))) (blockLines i (c + 1) (drop blockSize bytes))
+    → PartOf (line i (c + suc b) (take blockSize (drop (blockSize * suc b) bytes))) (blockLines i c bytes)
 block-behind b i c bytes h g =
     let n : c + 1 + b ≡ c + suc b = omega arith in
     let o : blockSize + blockSize * b ≡ blockSize * suc b = omega arith in
@@ -45,7 +44,7 @@ block-behind b i c bytes h g =
 
 -- the bytes are those from block c on
 block-part : (b i c : ℕ) (bytes : List ℕ) → blockSize * b < length bytes
-    → PartOf (line i (c + b) (take blockSize (drop (blockSize * b) bytes))) (linesFrom i c bytes)
+    → PartOf (line i (c + b) (take blockSize (drop (blockSize * b) bytes))) (blockLines i c bytes)
 block-part zero i c bytes h = rw (lines-some i c bytes (omega arith), add-zero) (record { before = []; after = _; whole = refl })
 block-part (suc b) i c bytes h = block-behind b i c bytes h (block-part b i (c + 1) (drop blockSize bytes) (rw length-drop (omega arith)))
 
@@ -64,7 +63,7 @@ class-part at (c ∷ cs) i s n p image e h =
     (λ t. part-right (classText (c .id) (take (c .len) (drop at image))) (rw drop-drop (class-part (at + c .len) cs i s n p image (rw t at e) h)))
 
 pub block-line : BlockLine
-unfolding blockBytes textOf
+unfolding blockBytes serializeImage
 block-line l image i b f e =
     on-answer (findBlock l (length image) i b)
     (λ s k p.

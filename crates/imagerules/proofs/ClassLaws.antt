@@ -1,5 +1,4 @@
--- Laws of the guess over the text of a class, and of all classes: it finds each class once, with all its bytes.
--- Assumes nothing.
+-- Laws of the candidate of the text of a class, and of all classes: it has each class once, with all its bytes.
 use Prim.Native.Nat.{ℕ, zero, suc, _+_, _-_, _*_, _%_, _≤_, _<_}
 use mathlib.Core.Path.{_≡_, refl, ap, _∙_}
 use mathlib.Core.Bool.{true, false}
@@ -9,32 +8,22 @@ use native.Mathlib.Nat.{add-zero, zero-add}
 use native.Mathlib.Numerals.{add-one}
 use lib.Dec.{eqb}
 use lib.ListN.{length, take, drop, getD, set, length-drop, length-set, length-take, take-append-drop}
-use lib.Seq.{sets, length-take-le, set-set, set-getD, getD-set-same, getD-drop}
+use lib.Seq.{sets, length-take-le, set-set, set-getD, getD-set-same}
 use borrow.Author.Tests.{lt-ltb, le-leb, ne-eqb, eq-eqb, leb-true}
 use Rattle.bytes.specs.Bytes.{indexOf}
 use Rattle.flashrules.specs.Layout.{maxClasses, maxClassLength, Class, paired, classes, sizeOf, inOrder, ordered, noClasses}
-use Rattle.flashrules.specs.Choice.{all}
+use Rattle.flashrules.specs.Choice.{and}
 use Rattle.flashrules.specs.Lookup.{blockSize}
 use Rattle.flashrules.specs.Image.{Bytes, maxByte}
 use Rattle.flashrules.specs.declared.layout.Layout.{Layout}
 use Rattle.flashrules.proofs.LayoutLaws.{valid-parts, fits-parts}
-use Rattle.flashrules.proofs.Picks.{all-first, all-rest}
-use Rattle.imagerules.specs.Text.{line, lines, blockCount, linesFrom, classText, classTexts, textOf, maxLines}
-use Rattle.imagerules.specs.Guess.{width, isLast, longer, addLine, content, gather, guess}
+use Rattle.flashrules.proofs.Picks.{and-first, and-rest}
+use Rattle.flashrules.proofs.BytesLaws.{bytes-take, bytes-drop}
+use Rattle.imagerules.specs.Text.{line, lines, blockCount, blockLines, classText, classTexts, serializeImage, maxLines}
+use Rattle.imagerules.specs.Candidate.{width, isLast, longer, addLine, content, gather, candidate}
 use Rattle.imagerules.specs.Laws.{Fitting, cleared}
 use Rattle.imagerules.proofs.TextLaws.{ordered-sized, lineCount, line-most}
 use Rattle.imagerules.proofs.LineLaws.{gather-line}
-
--- ---- parts of bytes
-
-bytes-take : (n : ℕ) (bs : List ℕ) → Bytes bs → Bytes (take n bs)
-bytes-take zero bs h k = omega arith
-bytes-take (suc n) [] h k = omega arith
-bytes-take (suc n) (b ∷ bs) h zero = h 0
-bytes-take (suc n) (b ∷ bs) h (suc k) = bytes-take n bs (λ j. h (suc j)) k
-
-bytes-drop : (n : ℕ) (bs : List ℕ) → Bytes bs → Bytes (drop n bs)
-bytes-drop n bs h k = rw (getD-drop n bs k 0) (h (n + k))
 
 nothing : (bs : List ℕ) → length bs ≡ 0 → bs ≡ []
 nothing [] e = refl
@@ -86,7 +75,7 @@ grows (suc m) f i b l d bs r hi hb low high h s t =
 abbrev begun : Layout → ℕ → ℕ → Layout
 begun l i n = record { count = l .count + 1; ids = set (l .ids) (l .count) i; lengths = set (l .lengths) (l .count) n }
 
--- what the guess has so far: arrays that are whole, with an entry left
+-- what the candidate has so far: arrays that are whole, with an entry left
 record Room (l : Layout) : Type 0 where
   ids : length (l .ids) ≡ maxClasses
   lengths : length (l .lengths) ≡ maxClasses
@@ -96,7 +85,7 @@ module _ (l : Layout) (i : ℕ) (w : Room l) where
   back : l .count + 1 - 1 ≡ l .count
   back = omega arith
 
-  begun-last : (n j : ℕ) → isLast (begun l i n) j ≡ all (eqb i j ∷ [])
+  begun-last : (n j : ℕ) → isLast (begun l i n) j ≡ and (eqb i j ∷ [])
   begun-last n j = rw (le-leb 1 (l .count + 1) (omega arith), back, getD-set-same (l .ids) (l .count) i 0 (omega arith))
 
   begun-longer : (m n : ℕ) → m + n ≤ maxClassLength → longer (begun l i m) n ≡ begun l i (m + n)
@@ -107,7 +96,7 @@ module _ (l : Layout) (i : ℕ) (w : Room l) where
   -- the lines of a class that is not the last make an entry, with all its bytes
   opens : (f : ℕ) (d bs r : List ℕ) → i ≤ maxByte → Bytes bs → 1 ≤ length bs → length bs ≤ maxClassLength → isLast l i ≡ false
       → gather (blockCount (length bs) + f) l d (classText i bs ++ r) ≡ gather f (begun l i (length bs)) (d ++ bs) r
-  unfolding addLine linesFrom
+  unfolding addLine blockLines
   opens f d bs r hi hb one most t =
       let b = take blockSize bs in
       let s = drop blockSize bs in
@@ -148,19 +137,19 @@ gather-texts (suc n) f lo (i ∷ is) (k ∷ ns) l d bs h g hi hb o e u v c b =
     let z = ordered-sized lo (x ∷ cs) o in
     let t : length (take k bs) ≡ k = length-take-le k bs (omega arith) in
     let w : Room l = record { ids = u; lengths = v; left = omega arith } in
-    let low : lo ≤ i = leb-true lo i (all-first _ _ (all-first (inOrder lo x) _ o)) in
+    let low : lo ≤ i = leb-true lo i (and-first _ _ (and-first (inOrder lo x) _ o)) in
     let a : blockCount k + lineCount cs + f ≡ blockCount (length (take k bs)) + (lineCount cs + f) = rw t (omega arith) in
     let p : l .count + 1 + n ≡ l .count + suc n = omega arith in
     rw a
     (opens l i w (lineCount cs + f) d (take k bs) (classTexts cs (drop k bs)) (hi 0) (bytes-take k bs hb) (omega arith) (omega arith) (b i low)
     ∙ gather-texts n f (i + 1) is ns (begun l i (length (take k bs))) (d ++ take k bs) (drop k bs) (omega arith) (omega arith) (λ j. hi (suc j)) (bytes-drop k bs hb)
-    (all-rest (inOrder lo x) _ o) (rw length-drop (omega arith)) (rw length-set u) (rw length-set v) (omega arith)
+    (and-rest (inOrder lo x) _ o) (rw length-drop (omega arith)) (rw length-set u) (rw length-set v) (omega arith)
     (λ j q. begun-last l i w (length (take k bs)) j ∙ rw (ne-eqb i j (λ r. omega arith)))
     ∙ rw (t, p, append-assoc, take-append-drop, add-one))
 
-pub guess-text : (l : Layout) (image : List ℕ) → Fitting l image → guess (textOf l image) ≡ content (cleared l) image
-unfolding guess textOf classes
-guess-text l image t =
+pub candidate-text : (l : Layout) (image : List ℕ) → Fitting l image → candidate (serializeImage l image) ≡ content (cleared l) image
+unfolding candidate serializeImage classes
+candidate-text l image t =
     let p = fits-parts l (length image) (t .fit) in
     let v = valid-parts l (p .0) in
     let cs = classes l in

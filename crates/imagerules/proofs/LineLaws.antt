@@ -1,5 +1,4 @@
--- Laws of one line: what the guess finds at the front of a text that begins with a line, and one step of `gather` over it.
--- Assumes nothing.
+-- Laws of one line: what is found at the front of a text that begins with a line, and one step of `gather` over it.
 use Prim.Native.Nat.{ℕ, suc, _+_, _*_, _/_, _≤_}
 use mathlib.Core.Path.{_≡_, ap, _∙_}
 use mathlib.Core.Bool.{false}
@@ -10,14 +9,14 @@ use lib.ListN.{length, drop, length-append}
 use lib.Seq.{take-length, take-at, drop-at}
 use borrow.Author.Tests.{lt-ltb, le-leb, ne-eqb}
 use Rattle.bytes.specs.Bytes.{indexOf, indexAfter, slice}
-use Rattle.hextext.specs.Hex.{digit, hex}
+use Rattle.hextext.specs.Hex.{digit, hex, lineFeed}
 use Rattle.hextext.proofs.HexLaws.{hex-back, hex-length, pair-back, digit-above}
 use Rattle.checksum.specs.Checksum.{checksum}
 use Rattle.flashrules.specs.Lookup.{blockSize}
-use Rattle.flashrules.specs.Image.{Bytes, maxByte, loaded}
+use Rattle.flashrules.specs.Image.{Bytes, maxByte, asLoaded}
 use Rattle.flashrules.specs.declared.layout.Layout.{Layout}
-use Rattle.imagerules.specs.Text.{lineFeed, line}
-use Rattle.imagerules.specs.Guess.{width, classByte, lineBytes, nextLine, addLine, gather}
+use Rattle.imagerules.specs.Text.{line}
+use Rattle.imagerules.specs.Candidate.{width, classByte, lineBytes, nextLine, addLine, gather}
 use Rattle.imagerules.proofs.TextLaws.{line-parts, line-length}
 
 -- ---- digits
@@ -44,7 +43,7 @@ module _ (i b : ℕ) (bs r : List ℕ) (hi : i ≤ maxByte) (hb : Bytes bs) (one
   line-index : indexOf lineFeed (line i b bs ++ r) ≡ 2 * length bs + 6
   unfolding line indexOf indexAfter
   line-index =
-      let end = checksum (loaded bs) ∷ [] in
+      let end = checksum (asLoaded bs) ∷ [] in
       let xs = i ∷ b ∷ (bs ++ end) in
       ap (indexOf lineFeed) (append-assoc (hex xs) (lineFeed ∷ []) r) ∙ index-hex xs (lineFeed ∷ r) ∙ rw (length-append bs end) (omega arith)
 

@@ -1,28 +1,26 @@
--- The round trip: what is written is read back, and what is accepted is written out as the very same text.
--- Assumes nothing.
+-- The round trip of texts: what is written is read back, and what is accepted is written out as the very same text.
 use Prim.Native.Nat.{ℕ, zero, suc, _+_, _*_, _≤_}
 use mathlib.Core.Path.{_≡_, refl, sym, ap, _∙_}
 use mathlib.Core.Bool.{true}
 use mathlib.Core.List.{List, [], _∷_, _++_}
 use native.Mathlib.Omega.{arith}
 use lib.Dec.{eqb, ltb}
-use lib.ListN.{length, take, drop, getD, set, replicate, length-set}
+use lib.ListN.{length, take, drop, getD, replicate, length-set}
 use lib.Seq.{length-take-le}
-use borrow.Author.Tests.{ltb-false}
 use Rattle.hextext.proofs.StoreLaws.{sets-start}
 use Rattle.hextext.proofs.HexLaws.{unhex-bytes, value-small}
-use Rattle.flashrules.specs.Answer.{shortBuffer}
 use Rattle.flashrules.specs.Layout.{maxClasses, paired, classes, valid, fits, noClasses}
 use Rattle.flashrules.specs.Image.{Bytes, maxByte}
 use Rattle.flashrules.specs.declared.layout.Layout.{Layout}
 use Rattle.flashrules.proofs.LayoutLaws.{valid-parts, fits-parts}
-use Rattle.flashrules.proofs.Picks.{same-refl, same-eq, all-first, all-rest, on-test, on-cond}
-use Rattle.imagerules.specs.Text.{textOf, maxLines}
-use Rattle.imagerules.specs.Guess.{width, classByte, lineBytes, nextLine, isLast, longer, another, addLine, Content, content, gather, guess}
-use Rattle.imagerules.specs.File.{holds, Judged, accepted, refused, judge, checkError, readJudged, read, write}
-use Rattle.imagerules.specs.Laws.{Fitting, inUse, cleared, WrittenRead, IsText, AcceptedText, TextOfSome, CheckAccepts, OneOnly, WriteThenRead, ReadThenWrite}
-use Rattle.imagerules.proofs.ClassLaws.{guess-text}
-use Rattle.imagerules.proofs.CallLaws.{wrote}
+use Rattle.flashrules.proofs.Picks.{same-refl, same-eq, and-first, and-rest, on-test, on-cond}
+use Rattle.flashrules.proofs.BytesLaws.{bytes-append, bytes-set, bytes-zeros}
+use Rattle.imagerules.specs.Text.{serializeImage, maxLines}
+use Rattle.imagerules.specs.Candidate.{width, classByte, lineBytes, nextLine, isLast, longer, another, addLine, Content, content, gather, candidate}
+use Rattle.imagerules.specs.File.{holds, ParsedImage, imageFile, noImageFile, parseImage, checkError}
+use Rattle.imagerules.specs.Laws.{Fitting, inUse, cleared, WrittenRead, IsText, AcceptedText, TextOfSome, CheckAccepts, OneOnly, AcceptedLength}
+use Rattle.imagerules.proofs.TextLaws.{text-length, text-most}
+use Rattle.imagerules.proofs.ClassLaws.{candidate-text}
 
 -- ---- a cleared layout has the same classes
 
@@ -49,23 +47,11 @@ module _ (l : Layout) (image : List ℕ) (t : Fitting l image) where
   unfolding fits valid
   fits-cleared = rw classes-cleared (t .fit)
 
-  text-cleared : textOf (cleared l) image ≡ textOf l image
-  unfolding textOf
+  text-cleared : serializeImage (cleared l) image ≡ serializeImage l image
+  unfolding serializeImage
   text-cleared = rw classes-cleared
 
--- ---- what a guess is, whatever the text: bytes, and a layout whose arrays are whole
-
-bytes-append : (xs ys : List ℕ) → Bytes xs → Bytes ys → Bytes (xs ++ ys)
-bytes-append [] ys h g k = g k
-bytes-append (x ∷ xs) ys h g zero = h 0
-bytes-append (x ∷ xs) ys h g (suc k) = bytes-append xs ys (λ j. h (suc j)) g k
-
-bytes-set : (xs : List ℕ) (i v : ℕ) → v ≤ maxByte → Bytes xs → Bytes (set xs i v)
-bytes-set [] i v h g k = g k
-bytes-set (x ∷ xs) zero v h g zero = h
-bytes-set (x ∷ xs) zero v h g (suc k) = g (suc k)
-bytes-set (x ∷ xs) (suc i) v h g zero = g 0
-bytes-set (x ∷ xs) (suc i) v h g (suc k) = bytes-set xs i v h (λ j. g (suc j)) k
+-- ---- what a candidate is, whatever the text: bytes, and a layout whose arrays are whole
 
 record Arrays (l : Layout) : Type 0 where
   ids : length (l .ids) ≡ maxClasses
@@ -91,82 +77,66 @@ gather-typed (suc f) l bs x w h =
     (add-arrays l (classByte x) (width x) (omega (arith, value-small (getD x 0 0), value-small (getD x 1 0))) w)
     (bytes-append bs (lineBytes x) h (unhex-bytes (take (2 * width x) (drop 4 x)))))
 
-bytes-zeros : (n : ℕ) → Bytes (replicate n 0)
-bytes-zeros zero k = omega arith
-bytes-zeros (suc n) zero = omega arith
-bytes-zeros (suc n) (suc k) = bytes-zeros n k
-
-guess-typed : (x : List ℕ) → Typed (guess x)
-unfolding guess
-guess-typed x = gather-typed maxLines noClasses [] x (record { ids = refl; lengths = refl; classes = bytes-zeros maxClasses }) (λ k. omega arith)
+candidate-typed : (x : List ℕ) → Typed (candidate x)
+unfolding candidate
+candidate-typed x = gather-typed maxLines noClasses [] x (record { ids = refl; lengths = refl; classes = bytes-zeros maxClasses }) (λ k. omega arith)
 
 -- ---- as to texts
 
 pub written-read : WrittenRead
-unfolding judge holds
-written-read l image t = rw (guess-text l image t, fits-cleared l image t, text-cleared l image t, same-refl (textOf l image))
+unfolding parseImage holds
+written-read l image t = rw (candidate-text l image t, fits-cleared l image t, text-cleared l image t, same-refl (serializeImage l image))
 
--- what a guess that holds is
-held : (g : Content) (x : List ℕ) → holds g x ≡ true → Typed g → Fitting (g .layout) (g .bytes) × (textOf (g .layout) (g .bytes) ≡ x)
+-- what a candidate that holds is
+held : (g : Content) (x : List ℕ) → holds g x ≡ true → Typed g → Fitting (g .layout) (g .bytes) × (serializeImage (g .layout) (g .bytes) ≡ x)
 unfolding holds
 held g x e t =
-    let h = all-first (fits (g .layout) (length (g .bytes))) _ e in
-    let s = all-first _ _ (all-rest (fits (g .layout) (length (g .bytes))) _ e) in
-    (record { ids = t .0 .ids; lengths = t .0 .lengths; classes = t .0 .classes; bytes = t .1; fit = h }, same-eq (textOf (g .layout) (g .bytes)) x s)
+    let h = and-first (fits (g .layout) (length (g .bytes))) _ e in
+    let s = and-first _ _ (and-rest (fits (g .layout) (length (g .bytes))) _ e) in
+    (record { ids = t .0 .ids; lengths = t .0 .lengths; classes = t .0 .classes; bytes = t .1; fit = h }, same-eq (serializeImage (g .layout) (g .bytes)) x s)
 
 module _ (x : List ℕ) (l : Layout) (image : List ℕ) where
-  read-text : judge x ≡ accepted l image → Fitting l image × (textOf l image ≡ x)
-  unfolding judge
+  read-text : parseImage x ≡ imageFile l image → Fitting l image × (serializeImage l image ≡ x)
+  unfolding parseImage
   read-text e =
-      on-test (holds (guess x) x) (λ t. taken (rw t at e) (held (guess x) x t (guess-typed x)))
-      (λ t. let p : refused ≡ accepted l image = rw t at e in let z : _≡_ {A = ℕ} 0 1 = cc in absurd (omega arith))
+      on-test (holds (candidate x) x) (λ t. taken (rw t at e) (held (candidate x) x t (candidate-typed x)))
+      (λ t. let p : noImageFile ≡ imageFile l image = rw t at e in let z : _≡_ {A = ℕ} 0 1 = cc in absurd (omega arith))
     where
-      taken : accepted (guess x .layout) (guess x .bytes) ≡ accepted l image → Fitting (guess x .layout) (guess x .bytes) × (textOf (guess x .layout) (guess x .bytes) ≡ x)
-          → Fitting l image × (textOf l image ≡ x)
+      taken : imageFile (candidate x .layout) (candidate x .bytes) ≡ imageFile l image → Fitting (candidate x .layout) (candidate x .bytes) × (serializeImage (candidate x .layout) (candidate x .bytes) ≡ x)
+          → Fitting l image × (serializeImage l image ≡ x)
       taken p h =
-          let el : guess x .layout ≡ l = cc in
-          let ei : guess x .bytes ≡ image = cc in
+          let el : candidate x .layout ≡ l = cc in
+          let ei : candidate x .bytes ≡ image = cc in
           rw (el, ei) at h
 
-  read-is : judge x ≡ accepted l image → IsText l image x
+  read-is : parseImage x ≡ imageFile l image → IsText l image x
   read-is e =
       let h = read-text e in
       let w = written-read l image (h .0) in
-      let c : cleared l ≡ l = cc (ap judge (h .1)) in
+      let c : cleared l ≡ l = cc (ap parseImage (h .1)) in
       record { fitting = h .0; clear = c; text = h .1 }
 
-  is-read : IsText l image x → judge x ≡ accepted l image
-  is-read t = cc (written-read l image (t .fitting), ap judge (t .text))
+  is-read : IsText l image x → parseImage x ≡ imageFile l image
+  is-read t = cc (written-read l image (t .fitting), ap parseImage (t .text))
 
 pub accepted-text : AcceptedText
 accepted-text x l image = (read-is x l image, is-read x l image)
 
 pub check-accepts : CheckAccepts
-check-accepts x = (λ e. by (judge x) refl e, λ t. rw (← t .text, written-read (t .layout) (t .image) (t .fitting)))
+check-accepts x = (λ e. by (parseImage x) refl e, λ t. rw (← t .text, written-read (t .layout) (t .image) (t .fitting)))
   where
-    by : (j : Judged) → judge x ≡ j → checkError j ≡ 0 → TextOfSome x
-    by refused p e = absurd (omega arith)
-    by (accepted l image) p e = let t = read-is x l image p in record { layout = l; image = image; fitting = t .fitting; text = t .text }
+    by : (j : ParsedImage) → parseImage x ≡ j → checkError j ≡ 0 → TextOfSome x
+    by noImageFile p e = absurd (omega arith)
+    by (imageFile l image) p e = let t = read-is x l image p in record { layout = l; image = image; fitting = t .fitting; text = t .text }
 
 pub one-only : OneOnly
 one-only l l′ image image′ t t′ e =
     let p = written-read l image t in
     let q = written-read l′ image′ t′ in
-    (cc (ap judge e), cc (ap judge e))
+    (cc (ap parseImage e), cc (ap parseImage e))
 
--- ---- as to the calls and their buffers
-
-pub write-then-read : WriteThenRead
-write-then-read l image buffer t e =
-    let w = write l image buffer in
-    rw (wrote l image buffer (w .buffer) (w .answer) refl e .text) (written-read l image t)
-
-pub read-then-write : ReadThenWrite
-unfolding read
-read-then-write x buffer e = by (judge x) refl e
-  where
-    by : (j : Judged) → judge x ≡ j → let r = readJudged j buffer in r .answer .error ≡ 0 → IsText (r .answer .layout) (take (r .answer .length) (r .buffer)) x
-    by refused p e = absurd (omega arith)
-    by (accepted l image) p e =
-        on-test (ltb (length buffer) (length image)) (λ u. let z : _≡_ {A = ℕ} shortBuffer 0 = rw u at e in absurd (omega arith))
-        (λ u. rw (u, sets-start buffer image (ltb-false (length buffer) (length image) u)) (read-is x l image p))
+pub accepted-length : AcceptedLength
+accepted-length x e =
+    let t = check-accepts x .0 e in
+    let f = t .fitting .fit in
+    rw (← t .text, text-length (t .layout) (t .image) f) (text-most (t .layout) (fits-parts (t .layout) (length (t .image)) f .0))

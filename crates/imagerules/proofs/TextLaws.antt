@@ -1,5 +1,4 @@
 -- Laws of the text of an image: its lines, block by block and class by class, how many there are and how long they are.
--- Assumes nothing.
 use Prim.Native.Nat.{ℕ, zero, suc, _+_, _-_, _*_, _≤_, min}
 use mathlib.Core.Path.{_≡_, refl}
 use mathlib.Core.Bool.{true}
@@ -9,18 +8,18 @@ use native.Mathlib.Decide.{decLe}
 use lib.ListN.{length, take, drop, length-append, length-take, length-drop}
 use lib.Seq.{length-take-le, take-all, take-nil, take-take}
 use borrow.Author.Tests.{leb-true}
-use Rattle.hextext.specs.Hex.{hex}
+use Rattle.hextext.specs.Hex.{hex, lineFeed, hexLine}
 use Rattle.hextext.proofs.HexLaws.{hex-append}
 use Rattle.hextext.proofs.Laws.{hex-length}
 use Rattle.checksum.specs.Checksum.{checksum}
 use Rattle.flashrules.specs.Layout.{maxClassLength, Class, paired, classes, sizeOf, inOrder, ordered, valid}
 use Rattle.flashrules.specs.Lookup.{blockSize}
-use Rattle.flashrules.specs.Image.{loaded}
+use Rattle.flashrules.specs.Image.{asLoaded}
 use Rattle.flashrules.specs.declared.layout.Layout.{Layout}
-use Rattle.flashrules.proofs.Picks.{all-first, all-rest}
+use Rattle.flashrules.proofs.Picks.{and-first, and-rest}
 use Rattle.flashrules.proofs.Laws.{checksum-loaded}
 use Rattle.flashrules.proofs.LayoutLaws.{valid-parts, fits-parts}
-use Rattle.imagerules.specs.Text.{lineFeed, line, lines, blockCount, linesFrom, classText, classTexts, textOf, classLength, textLength, maxLines, maxText}
+use Rattle.imagerules.specs.Text.{line, lines, blockCount, blockLines, classText, classTexts, serializeImage, classLength, textLength, maxLines, maxText}
 use Rattle.imagerules.specs.Laws.{TextLength}
 
 -- ---- parts of bytes
@@ -40,23 +39,23 @@ take-part k (suc m) (suc n) j (x ∷ xs) e = take-part k m n j xs (omega arith)
 
 -- in the order in which its parts are written
 pub line-parts : (i b : ℕ) (bytes : List ℕ)
-    → line i b bytes ≡ hex (i ∷ b ∷ []) ++ (hex bytes ++ (hex (checksum bytes ∷ []) ++ (lineFeed ∷ [])))
+    → line i b bytes ≡ hex (i ∷ b ∷ []) ++ (hex bytes ++ hexLine (checksum bytes ∷ []))
 unfolding line
 line-parts i b bytes =
-    rw (hex-append bytes (checksum (loaded bytes) ∷ []), checksum-loaded bytes, append-assoc (hex bytes) (hex (checksum bytes ∷ [])) (lineFeed ∷ []))
+    rw (hex-append bytes (checksum (asLoaded bytes) ∷ []), checksum-loaded bytes, append-assoc (hex bytes) (hex (checksum bytes ∷ [])) (lineFeed ∷ []))
 
 pub line-length : (i b : ℕ) (bytes : List ℕ) → length (line i b bytes) ≡ 2 * length bytes + 7
 line-length i b bytes = rw (line-parts i b bytes) (simp (length-append, hex-length) (omega arith))
 
 -- ---- the lines of a class
 
-pub lines-none : (i b : ℕ) (bytes : List ℕ) → length bytes ≡ 0 → linesFrom i b bytes ≡ []
-unfolding linesFrom
+pub lines-none : (i b : ℕ) (bytes : List ℕ) → length bytes ≡ 0 → blockLines i b bytes ≡ []
+unfolding blockLines
 lines-none i b bytes h = rw h
 
 pub lines-some : (i b : ℕ) (bytes : List ℕ) → 1 ≤ length bytes
-    → linesFrom i b bytes ≡ line i b (take blockSize bytes) ++ linesFrom i (b + 1) (drop blockSize bytes)
-unfolding linesFrom
+    → blockLines i b bytes ≡ line i b (take blockSize bytes) ++ blockLines i (b + 1) (drop blockSize bytes)
+unfolding blockLines
 lines-some i b bytes h =
     let n : blockCount (length bytes) ≡ suc (blockCount (length (drop blockSize bytes))) = rw (length-drop blockSize bytes) (omega arith) in
     rw n
@@ -69,7 +68,7 @@ lines-length (suc n) i b bytes h =
     rw (length-append, l, r) (omega (arith, length-take blockSize bytes, length-drop blockSize bytes))
 
 pub class-length : (i : ℕ) (bytes : List ℕ) → length (classText i bytes) ≡ classLength (length bytes)
-unfolding linesFrom
+unfolding blockLines
 class-length i bytes = lines-length (blockCount (length bytes)) i 0 bytes (omega arith)
 
 -- ---- the classes of a valid layout
@@ -82,8 +81,8 @@ Sized (c ∷ cs) = (1 ≤ c .len) × (c .len ≤ maxClassLength) × Sized cs
 pub ordered-sized : (lo : ℕ) (cs : List Class) → ordered lo cs ≡ true → Sized cs
 ordered-sized lo [] e = tt
 ordered-sized lo (c ∷ cs) e =
-    let h = all-first (inOrder lo c) _ e in
-    (search (all-first, all-rest, leb-true) depth 12, search (all-first, all-rest, leb-true) depth 12, ordered-sized (c .id + 1) cs (all-rest (inOrder lo c) _ e))
+    let h = and-first (inOrder lo c) _ e in
+    (search (and-first, and-rest, leb-true) depth 12, search (and-first, and-rest, leb-true) depth 12, ordered-sized (c .id + 1) cs (and-rest (inOrder lo c) _ e))
 
 texts-length : (cs : List Class) (bytes : List ℕ) → length bytes ≡ sizeOf cs → length (classTexts cs bytes) ≡ textLength cs
 texts-length [] bytes h = refl
@@ -92,7 +91,7 @@ texts-length (c ∷ cs) bytes h =
     rw (length-append, class-length (c .id) (take (c .len) bytes), n, texts-length cs (drop (c .len) bytes) (rw (length-drop (c .len) bytes) (omega arith)))
 
 pub text-length : TextLength
-unfolding textOf
+unfolding serializeImage
 text-length l image e = texts-length (classes l) image (fits-parts l (length image) e .1)
 
 -- ---- how many lines there are

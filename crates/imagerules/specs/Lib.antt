@@ -1,4 +1,4 @@
 pub mod Text
-pub mod Guess
+pub mod Candidate
 pub mod File
 pub mod Laws

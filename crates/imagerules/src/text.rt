@@ -1,6 +1,4 @@
 // Numbers of the text of an image.
-pub const LINE_FEED: u8 = 10;
-
 // No text has more lines: 4096 bytes make 128 full blocks, and each of 32 classes may have one that is not full.
 pub const MAX_LINES: usize = 160;
 

@@ -1,5 +1,4 @@
 -- Laws of `write`: what its calls say, and what it answers.
--- Assumes nothing.
 use Prim.Native.Nat.{ℕ, _≤_, _<_}
 use mathlib.Core.Path.{_≡_, sym, _∙_}
 use mathlib.Core.Bool.{Bool, true, false}
@@ -7,12 +6,13 @@ use mathlib.Core.List.{List}
 use lib.ListN.{length}
 use lib.Seq.{sets}
 use borrow.Author.Tests.{lt-ltb, le-ltb}
-use Rattle.flashrules.specs.Answer.{invalidLayout, shortBuffer}
+use Rattle.flashrules.specs.Error.{malformed, shortBuffer}
+use Rattle.flashrules.specs.Outcome.{outcome}
 use Rattle.flashrules.specs.Layout.{classes, valid, fits}
 use Rattle.flashrules.specs.declared.layout.Layout.{Layout}
 use Rattle.flashrules.proofs.LayoutLaws.{fits-parts}
-use Rattle.imagerules.specs.Text.{textOf, textLength}
-use Rattle.imagerules.specs.File.{outcome, notWritten, write}
+use Rattle.imagerules.specs.Text.{serializeImage, textLength}
+use Rattle.imagerules.specs.File.{notWritten, write}
 use Rattle.imagerules.proofs.Laws.{text-length}
 
 -- ---- what a call of `fits` says, and one of `text_length` after it
@@ -25,13 +25,13 @@ module _ (l : Layout) (n : ℕ) (t : Bool) (p : t ≡ fits l n) (q : t ≡ true)
   call-valid = fits-parts l n call-fits .0
 
 call-length : (l : Layout) (image : List ℕ) (t : Bool) → t ≡ fits l (length image) → t ≡ true → (n : ℕ) → n ≡ textLength (classes l)
-    → n ≡ length (textOf l image)
+    → n ≡ length (serializeImage l image)
 call-length l image t p q n e = e ∙ sym (text-length l image (call-fits l (length image) t p q))
 
 -- ---- writing
 
 module _ (l : Layout) (image r : List ℕ) (t : Bool) (p : t ≡ fits l (length image)) where
-  pub write-bad : t ≡ false → outcome (notWritten invalidLayout) r ≡ write l image r
+  pub write-bad : t ≡ false → outcome (notWritten malformed) r ≡ write l image r
   unfolding write
   write-bad q = rw (← p, q)
 
@@ -40,6 +40,6 @@ module _ (l : Layout) (image r : List ℕ) (t : Bool) (p : t ≡ fits l (length 
     unfolding write
     write-short h = rw (← p, q, ← call-length l image t p q n e, lt-ltb (length r) n h)
 
-    pub write-good : (r′ : List ℕ) → n ≤ length r → r′ ≡ sets r 0 (textOf l image) → outcome (record { error = 0; length = n }) r′ ≡ write l image r
+    pub write-good : (r′ : List ℕ) → n ≤ length r → r′ ≡ sets r 0 (serializeImage l image) → outcome (record { error = 0; length = n }) r′ ≡ write l image r
     unfolding write
     write-good r′ h s = rw (← p, q, ← call-length l image t p q n e, le-ltb (length r) n h, s)

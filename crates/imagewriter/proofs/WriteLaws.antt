@@ -1,5 +1,4 @@
 -- Laws of the functions that write the text: one line out of its parts, and the loops over blocks and over classes.
--- Assumes nothing.
 use Prim.Native.Nat.{ℕ, _+_, _-_, _*_, _≤_, _<_, min}
 use mathlib.Core.Path.{_≡_, refl, ap, _∙_}
 use mathlib.Core.Bool.{true}
@@ -8,7 +7,7 @@ use native.Mathlib.Omega.{arith}
 use native.Mathlib.Decide.{decLe}
 use lib.ListN.{length, take, drop, getD, length-take, length-drop}
 use lib.Seq.{sets, length-take-le, drop-drop, take-length}
-use Rattle.hextext.specs.Hex.{hex}
+use Rattle.hextext.specs.Hex.{hex, hexLine}
 use Rattle.hextext.proofs.StoreLaws.{sets-on}
 use Rattle.hextext.proofs.Laws.{hex-length}
 use Rattle.checksum.specs.Checksum.{checksum}
@@ -16,7 +15,7 @@ use Rattle.flashrules.specs.Layout.{maxClasses, maxClassLength, classes, sizeOf
 use Rattle.flashrules.specs.Lookup.{blockSize}
 use Rattle.flashrules.specs.declared.layout.Layout.{Layout}
 use Rattle.flashrules.proofs.LayoutLaws.{Whole, classes-next, classes-end, valid-parts, fits-parts}
-use Rattle.imagerules.specs.Text.{lineFeed, line, linesFrom, classText, classTexts, textOf, classLength, textLength, maxText}
+use Rattle.imagerules.specs.Text.{line, blockLines, classText, classTexts, serializeImage, classLength, textLength, maxText}
 use Rattle.imagerules.proofs.TextLaws.{take-part, line-parts, line-length, lines-none, lines-some, class-length, Sized, ordered-sized, text-most}
 
 -- ---- one line
@@ -26,14 +25,10 @@ module _ (at : ℕ) (r r₁ r₂ : List ℕ) where
       → r₂ ≡ sets r at (hex (i ∷ b ∷ []))
   head-put i b p q = q ∙ sets-on r r₁ at (at + 2) (hex (i ∷ [])) (hex (b ∷ [])) p refl
 
-  pub tail-put : (sum : ℕ) → r₁ ≡ sets r at (hex (sum ∷ [])) → r₂ ≡ sets r₁ (at + 2) (lineFeed ∷ [])
-      → r₂ ≡ sets r at (hex (sum ∷ []) ++ (lineFeed ∷ []))
-  tail-put sum p q = q ∙ sets-on r r₁ at (at + 2) (hex (sum ∷ [])) (lineFeed ∷ []) p refl
-
   pub line-put : (i b sum : ℕ) (bytes r₃ : List ℕ) → sum ≡ checksum bytes → r₁ ≡ sets r at (hex (i ∷ b ∷ [])) → r₂ ≡ sets r₁ (at + 4) (hex bytes)
-      → r₃ ≡ sets r₂ (at + 4 + 2 * length bytes) (hex (sum ∷ []) ++ (lineFeed ∷ [])) → r₃ ≡ sets r at (line i b bytes)
+      → r₃ ≡ sets r₂ (at + 4 + 2 * length bytes) (hexLine (sum ∷ [])) → r₃ ≡ sets r at (line i b bytes)
   line-put i b sum bytes r₃ s p q t =
-      let tail = hex (sum ∷ []) ++ (lineFeed ∷ []) in
+      let tail = hexLine (sum ∷ []) in
       rw (line-parts i b bytes, ← s)
       (t ∙ sets-on r₁ r₂ (at + 4) (at + 4 + 2 * length bytes) (hex bytes) tail q (rw (hex-length bytes))
       ∙ sets-on r r₁ at (at + 4) (hex (i ∷ b ∷ [])) (hex bytes ++ tail) p refl)
@@ -51,7 +46,7 @@ pub record BlockAt (i at₀ : ℕ) (bytes r₀ : List ℕ) (b from at : ℕ) (r 
   pub place : from ≡ blockSize * b
   pub room : at + classLength (length bytes - from) ≤ length r
   pub long : length r ≡ length r₀
-  pub same : sets r at (linesFrom i b (drop from bytes)) ≡ sets r₀ at₀ (classText i bytes)
+  pub same : sets r at (blockLines i b (drop from bytes)) ≡ sets r₀ at₀ (classText i bytes)
 
 pub block-start : (i at : ℕ) (bytes r : List ℕ) → at + classLength (length bytes) ≤ length r → BlockAt i at bytes r 0 0 at r
 block-start i at bytes r h = record { place = refl; room = omega arith; long = refl; same = refl }
@@ -81,7 +76,7 @@ module _ (i at₀ : ℕ) (bytes r₀ : List ℕ) (b from at : ℕ) (r : List ℕ
         room = rw (k, q) (room-left (length bytes - from) at at′ (length r) (v .room) (omega arith) a);
         long = q ∙ v .long;
         same =
-            sets-on r r′ at at′ (line i b part) (linesFrom i (b + 1) (drop (from + blockSize) bytes)) p n
+            sets-on r r′ at at′ (line i b part) (blockLines i (b + 1) (drop (from + blockSize) bytes)) p n
             ∙ rw (drop-drop blockSize from bytes) at (rw (lines-some i b (drop from bytes) (omega arith)) at (v .same));
       }
 
@@ -121,11 +116,11 @@ pub record ClassAt (l : Layout) (image r₀ : List ℕ) (k from at : ℕ) (r : L
   pub place : at ≤ length r
   pub room : at + textLength (drop k (classes l)) ≤ length r
   pub long : length r ≡ length r₀
-  pub same : sets r at (classTexts (drop k (classes l)) (drop from image)) ≡ sets r₀ 0 (textOf l image)
+  pub same : sets r at (classTexts (drop k (classes l)) (drop from image)) ≡ sets r₀ 0 (serializeImage l image)
 
 pub class-start : (l : Layout) (image r : List ℕ) → length (l .ids) ≡ maxClasses → length (l .lengths) ≡ maxClasses
     → fits l (length image) ≡ true → textLength (classes l) ≤ length r → ClassAt l image r 0 0 0 r
-unfolding textOf
+unfolding serializeImage
 class-start l image r hi hn f h =
     let p = fits-parts l (length image) f in
     let v = valid-parts l (p .0) in
@@ -141,7 +136,7 @@ class-start l image r hi hn f h =
     }
 
 module _ (l : Layout) (image r₀ : List ℕ) (k from at : ℕ) (r : List ℕ) (v : ClassAt l image r₀ k from at r) where
-  pub class-end : l .count ≤ k → r ≡ sets r₀ 0 (textOf l image)
+  pub class-end : l .count ≤ k → r ≡ sets r₀ 0 (serializeImage l image)
   class-end h = rw (classes-end l k (v .whole) h) at (v .same)
 
   module _ (h : k < l .count) (n : ℕ) (p : n ≡ getD (l .lengths) k 0) where

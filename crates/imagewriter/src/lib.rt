@@ -4,13 +4,14 @@ mod text;
 
 use crate::text::put_text;
 use crate::text::text_length;
+use flashrules::error::MALFORMED;
+use flashrules::error::SHORT_BUFFER;
 use flashrules::layout::Layout;
-use flashrules::lookup::INVALID_LAYOUT;
-use flashrules::lookup::SHORT_BUFFER;
 use imagerules::answer::FileWritten;
 use layout::valid::fits;
 ghost use mathlib.Core.Path.{_≡_};
-ghost use Rattle.imagerules.specs.File.{outcome, write};
+ghost use Rattle.flashrules.specs.Outcome.{outcome};
+ghost use Rattle.imagerules.specs.File.{write};
 
 // The text of a layout and its image, at the front of the buffer.
 pub fn write(layout: Layout, image: &[u8], buffer: &mut [u8]) -> FileWritten
@@ -31,7 +32,7 @@ pub fn write(layout: Layout, image: &[u8], buffer: &mut [u8]) -> FileWritten
         };
     }
     FileWritten {
-        error: INVALID_LAYOUT,
+        error: MALFORMED,
         length: 0,
     }
 }

@@ -4,20 +4,19 @@ use flashrules::layout::Layout;
 use flashrules::lookup::BLOCK_SIZE;
 use hextext::encode;
 use hextext::encode_byte;
-use hextext::store;
-use imagerules::text::LINE_FEED;
+use hextext::encode_line;
+use layout::entry::length_at;
 use layout::lookup::block_length;
-use layout::valid::wide16;
 ghost use mathlib.Core.Path.{_≡_};
 ghost use mathlib.Core.Bool.{true};
-ghost use mathlib.Core.List.{[], _∷_, _++_};
+ghost use mathlib.Core.List.{[], _∷_};
 ghost use Prim.Native.Nat.{_+_, _-_, _*_, _≤_, _<_, min};
 ghost use lib.ListN.{length, take, drop};
 ghost use lib.Seq.{sets};
-ghost use Rattle.hextext.specs.Hex.{hex};
+ghost use Rattle.hextext.specs.Hex.{hex, hexLine};
 ghost use Rattle.flashrules.specs.Layout.{maxClassLength, classes, valid, fits};
 ghost use Rattle.flashrules.specs.Lookup.{blockSize};
-ghost use Rattle.imagerules.specs.Text.{lineFeed, line, classText, textOf, classLength, textLength, maxText};
+ghost use Rattle.imagerules.specs.Text.{line, classText, serializeImage, classLength, textLength, maxText};
 
 // Class and block number.
 fn put_head(class: u8, block: u8, buffer: &mut [u8], at: usize)
@@ -31,10 +30,9 @@ fn put_head(class: u8, block: u8, buffer: &mut [u8], at: usize)
 // Checksum and line feed.
 fn put_tail(sum: u8, buffer: &mut [u8], at: usize)
     requires { ⌜ at + 3 ≤ length (now buffer) ⌝ }
-    ensures { λ _. ⌜ now (buffer .exit) ≡ sets (now (buffer .entry)) at (hex (sum ∷ []) ++ (lineFeed ∷ [])) ⌝ }
+    ensures { λ _. ⌜ now (buffer .exit) ≡ sets (now (buffer .entry)) at (hexLine (sum ∷ [])) ⌝ }
 {
-    encode_byte(sum, buffer, at);
-    store(LINE_FEED, buffer, at + 2);
+    encode_line(&[sum], buffer, at);
 }
 
 // One block's line. A block's checksum as loaded is that of its own bytes.
@@ -90,7 +88,7 @@ pub(crate) fn text_length(layout: Layout) -> usize
     let mut sum: usize = 0;
     let mut k = 0;
     while k < layout.count {
-        sum += class_length(wide16(layout.lengths[k]));
+        sum += class_length(length_at(layout, k));
         k += 1;
     }
     sum
@@ -109,13 +107,13 @@ fn put_part(class: u8, image: &[u8], from: usize, n: usize, buffer: &mut [u8], a
 // The text of an image, at the front of the buffer.
 pub(crate) fn put_text(layout: Layout, image: &[u8], buffer: &mut [u8])
     requires { ⌜ (fits layout (length (now image)) ≡ true) × (textLength (classes layout) ≤ length (now buffer)) ⌝ }
-    ensures { λ _. ⌜ now (buffer .exit) ≡ sets (now (buffer .entry)) 0 (textOf layout (now (image .entry))) ⌝ }
+    ensures { λ _. ⌜ now (buffer .exit) ≡ sets (now (buffer .entry)) 0 (serializeImage layout (now (image .entry))) ⌝ }
 {
     let mut k = 0;
     let mut from = 0;
     let mut out = 0;
     while k < layout.count {
-        let n = wide16(layout.lengths[k]);
+        let n = length_at(layout, k);
         out = put_part(layout.ids[k], image, from, n, buffer, out);
         from += n;
         k += 1;

@@ -1,14 +1,14 @@
 // Finding a class and a block of a class: where its bytes lie in the image, or document 01's error number. Refusals come in the
 // order 10, 4, 5. The layout is judged at each call: a few passes over the entries in use, at most 32, and no byte of the image.
+use crate::entry::length_at;
 use crate::valid::fits;
 use crate::valid::valid;
-use crate::valid::wide16;
+use flashrules::error::MALFORMED;
+use flashrules::error::UNKNOWN_BLOCK;
+use flashrules::error::UNKNOWN_CLASS;
 use flashrules::layout::Layout;
 use flashrules::lookup::BLOCK_SIZE;
-use flashrules::lookup::INVALID_LAYOUT;
 use flashrules::lookup::Lookup;
-use flashrules::lookup::UNKNOWN_BLOCK;
-use flashrules::lookup::UNKNOWN_CLASS;
 ghost use mathlib.Core.Path.{_≡_};
 ghost use Prim.Native.Nat.{_*_, _≤_, min};
 ghost use Rattle.flashrules.specs.Answer.{errorOf};
@@ -33,7 +33,7 @@ pub(crate) fn locate(layout: Layout, class: u8) -> Lookup
     let mut start: usize = 0;
     let mut k = 0;
     while k < layout.count {
-        let len = wide16(layout.lengths[k]);
+        let len = length_at(layout, k);
         if layout.ids[k] == class {
             return Lookup::Found { start, len };
         }
@@ -50,7 +50,7 @@ pub fn find_class(layout: Layout, class: u8) -> Lookup
     if valid(layout) {
         return locate(layout, class);
     }
-    Lookup::Refused(INVALID_LAYOUT)
+    Lookup::Refused(MALFORMED)
 }
 
 // Where a block starts inside its class.
@@ -93,7 +93,7 @@ pub fn find_block(layout: Layout, image_len: usize, class: u8, block: u8) -> Loo
         };
         return block_in(start, len, block);
     }
-    Lookup::Refused(INVALID_LAYOUT)
+    Lookup::Refused(MALFORMED)
 }
 
 // Whether a class of the layout has a block of this number.

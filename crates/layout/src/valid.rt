@@ -1,5 +1,7 @@
 // Layouts: which classes an image has, in which order and how long. A layout is plain numbers, so a broken one can be
 // passed to every function; `valid` is the test that the others rest on.
+use crate::entry::id_at;
+use crate::entry::length_at;
 use crate::lookup::locate;
 use flashrules::layout::INFO_CLASS;
 use flashrules::layout::INFO_LENGTH;
@@ -11,21 +13,8 @@ use flashrules::layout::MAX_IMAGE_LENGTH;
 use flashrules::layout::MIN_KEY_LENGTH;
 use flashrules::lookup::Lookup;
 ghost use mathlib.Core.Path.{_≡_};
-ghost use Prim.Native.Nat.{_≤_, _<_};
+ghost use Prim.Native.Nat.{_≤_};
 ghost use Rattle.flashrules.specs.Layout.{maxClasses, classes, inOrder, ordered, size, lengthIn, hasFixedClasses, valid, fits};
-
-// Widened by a call: a cast of an array's element would ask each caller for the element's range.
-pub fn wide8(x: u8) -> usize
-    ensures { λ r. ⌜ (r ≡ x) × (r < 256) ⌝ }
-{
-    x as usize
-}
-
-pub fn wide16(x: u16) -> usize
-    ensures { λ r. ⌜ (r ≡ x) × (r < 65536) ⌝ }
-{
-    x as usize
-}
 
 // Whether one entry keeps the identifiers ascending, its own being at least `lo`, and has a length in range.
 fn in_order(lo: usize, id: usize, len: usize) -> bool
@@ -47,8 +36,8 @@ fn ordered(layout: Layout) -> bool
     let mut lo: usize = 0;
     let mut k = 0;
     while k < layout.count {
-        let id = wide8(layout.ids[k]);
-        if in_order(lo, id, wide16(layout.lengths[k])) {
+        let id = id_at(layout, k);
+        if in_order(lo, id, length_at(layout, k)) {
             lo = id + 1;
             k += 1;
         } else {
@@ -66,7 +55,7 @@ fn size(layout: Layout) -> usize
     let mut sum: usize = 0;
     let mut k = 0;
     while k < layout.count {
-        sum += wide16(layout.lengths[k]);
+        sum += length_at(layout, k);
         k += 1;
     }
     sum

@@ -1,5 +1,4 @@
 -- The text that is held in a buffer: kept, read on, and cut.
--- Assumes nothing.
 use Prim.Native.Nat.{ℕ, zero, suc, _+_, _-_, _≤_, _<_}
 use mathlib.Core.Path.{_≡_, sym, ap, _∙_}
 use mathlib.Core.List.{List, [], _∷_, _++_}
@@ -7,8 +6,6 @@ use native.Mathlib.Nat.{sub-zero, zero-add}
 use native.Mathlib.Omega.{arith}
 use lib.ListN.{length, take, drop, getD, set, length-take, length-drop}
 use lib.Seq.{take-suc, take-suc-set, drop-set-lt, drop-drop, take-nil, take-add, take-at, length-take-le, getD-drop}
-use Rattle.scriptrules.specs.Judge.{feed}
-use Rattle.scriptrules.specs.declared.judge.State.{State}
 use Rattle.replay.specs.Held.{held, Longer}
 
 -- ---- moved to the front: (t, u) is the loop's invariant, after i bytes
@@ -63,8 +60,3 @@ module _ (b : List ℕ) (from to n : ℕ) where
   held-drop h =
       let e : to - from ≡ n + (to - (from + n)) = omega arith in
       rw (e, drop-front, drop-drop)
-
--- ---- judged: a chunk at the front of the buffer
-
-pub front-fed : (b : List ℕ) (n : ℕ) (s t : State) → t ≡ feed s (take (n - 0) (drop 0 b)) → t ≡ feed s (take n b)
-front-fed b n s t p = rw sub-zero at p

@@ -1,2 +1,3 @@
+pub mod CheckedLaws
+pub mod EventLaws
 pub mod HeldLaws
-pub mod StepLaws

@@ -1,13 +1,13 @@
--- What the second pass does, as a host's steps (crate `scriptrules`, specs/Host.antt): by the claim `HostPrints` there, a host that has run all of a
--- script has printed what document 01 asks for. No contract can say what is read from a file or printed.
--- Assumes nothing.
+-- What the second pass does, as a host's steps (crate `scriptrules`, specs/Host.antt): by the claim `HostPrints`
+-- there, a host that has run all of a script has printed what document 01 asks for. No contract can say what is read
+-- from a file or printed.
 use Prim.Native.Nat.{ℕ, _-_}
 use mathlib.Core.Path.{_≡_}
 use mathlib.Core.List.{List, [], _∷_, _++_}
 use lib.ListN.{length, take, drop}
 use Rattle.flashrules.specs.declared.layout.Layout.{Layout}
 use Rattle.gaugerules.specs.Script.{Device}
-use Rattle.scriptrules.specs.Host.{Step, arrives, runs, host, steps}
+use Rattle.scriptrules.specs.Host.{Event, arrives, runs, host, handleAll}
 
 -- the text that is held: the buffer's bytes from one index up to another
 abbrev pub held : List ℕ → ℕ → ℕ → List ℕ
@@ -18,22 +18,23 @@ pub record Longer (y x : List ℕ) : Type 0 where
   pub more : List ℕ
   pub whole : x ≡ y ++ more
 
--- one turn leads from a device and a text held to others: the text is run, with this buffer for the replies, and then more may come
+-- one turn leads from a device and a text held to others: the text is run, with this buffer for the replies, and then
+-- more may come
 pub record Turned (l : Layout) (out : List ℕ) (d : Device) (x : List ℕ) (d′ : Device) (x′ : List ℕ) : Type 0 where
   pub more : List ℕ
-  pub device : steps l (host d x []) (runs out ∷ arrives more ∷ []) .device ≡ d′
-  pub text : steps l (host d x []) (runs out ∷ arrives more ∷ []) .held ≡ x′
+  pub device : handleAll l (host d x []) (runs out ∷ arrives more ∷ []) .device ≡ d′
+  pub text : handleAll l (host d x []) (runs out ∷ arrives more ∷ []) .held ≡ x′
 
 -- some steps lead from a device and a text held to another device and text
-pub record BySteps (l : Layout) (d : Device) (x : List ℕ) (d′ : Device) (x′ : List ℕ) : Type 0 where
-  pub taken : List Step
-  pub device : steps l (host d x []) taken .device ≡ d′
-  pub text : steps l (host d x []) taken .held ≡ x′
+pub record ByEvents (l : Layout) (d : Device) (x : List ℕ) (d′ : Device) (x′ : List ℕ) : Type 0 where
+  pub taken : List Event
+  pub device : handleAll l (host d x []) taken .device ≡ d′
+  pub text : handleAll l (host d x []) taken .held ≡ x′
 
 -- the same where the last text's length and image are told
 pub record Passed (l : Layout) (d : Device) (image′ : List ℕ) (left : ℕ) : Type 0 where
   pub last : Device
   pub text : List ℕ
-  pub steps : BySteps l d [] last text
+  pub events : ByEvents l d [] last text
   pub image : last .image ≡ image′
   pub size : length text ≡ left

@@ -1,12 +1,13 @@
 // image.hex.
 use crate::input::Got;
 use crate::input::read_some;
-use crate::output::complain;
+use crate::output::report;
 use imagereader::read;
 use imagerules::answer::FileRead;
 use imagerules::text::MAX_TEXT;
 ghost use Prim.Native.Nat.{_≤_};
 ghost use lib.ListN.{length};
+ghost use Rattle.replay.specs.Checked.{ImageChecked};
 
 // Reads until the buffer is full, the file ends or a read fails.
 fn fill(fd: i32, buffer: &mut [u8]) -> Got
@@ -50,6 +51,7 @@ fn load_text(buffer: &mut [u8]) -> Got
 // one byte more is judged than that, and of one that cannot be read nothing.
 pub(crate) fn load(buffer: &mut [u8]) -> FileRead
     ensures { λ r. ⌜ r .length ≤ length (now (buffer .entry)) ⌝ }
+    ensures { λ r. ⌜ ImageChecked (r .error) (r .layout) (r .length) ⌝ }
 {
     let mut text = [0u8; MAX_TEXT + 1];
     let got = load_text(&mut text);
@@ -59,7 +61,7 @@ pub(crate) fn load(buffer: &mut [u8]) -> FileRead
     let n = got.count;
     let found = read(&text[0..n], buffer);
     if found.error != 0 {
-        complain(b"image.hex: no image file");
+        report(b"image.hex: no image file");
     }
     found
 }

@@ -3,7 +3,7 @@
 //
 // Both files are judged before anything is printed, so the script is read twice, each time in chunks: any length of it takes the same
 // memory. What is printed is proved of crate `scriptrunner`, whose calls do all the work; here they are fed.
-mod blame;
+mod diagnose;
 mod image_file;
 mod input;
 mod output;
@@ -16,12 +16,13 @@ fn main() {
     let mut bytes = [0u8; MAX_IMAGE_LENGTH];
     let found = image_file::load(&mut bytes);
     let fd = script_file::open();
-    let good = script_file::judged(fd);
+    let parsed = script_file::parse(fd);
     if found.error == 0 {
-        if good {
+        if parsed.good {
             let n = found.length;
             let layout = found.layout;
-            pass::replay(fd, layout, &mut bytes[0..n]);
+            let state = parsed.state;
+            pass::replay(fd, layout, &mut bytes[0..n], state, parsed.count);
             return;
         }
     }

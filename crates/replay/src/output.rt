@@ -20,7 +20,7 @@ pub(crate) fn print(text: &[u8]) -> bool {
 }
 
 // A reason, as a line.
-pub(crate) fn complain(reason: &[u8]) {
+pub(crate) fn report(reason: &[u8]) {
     io::write_all(STDERR_FILENO, reason);
     io::write_all(STDERR_FILENO, b"\n");
 }

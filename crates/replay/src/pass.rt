@@ -2,27 +2,35 @@
 // host's steps.
 use crate::input::Got;
 use crate::input::read_some;
-use crate::output::complain;
 use crate::output::print;
+use crate::output::report;
 use flashrules::layout::Layout;
 use gaugerules::state::BOOT_SEALED;
 use gaugerules::state::Gauge;
 use gaugestate::state::power_on;
 use scriptrules::answer::Progress;
+use scriptrules::parser::Parser;
 use scriptrunner::run::run;
+use std::num::wrapping_add_u64;
 ghost use mathlib.Core.Path.{_≡_};
+ghost use mathlib.Core.Bool.{true};
 ghost use Prim.Native.Nat.{_+_, _-_, _≤_};
 ghost use lib.ListN.{length, take};
+ghost use Rattle.flashrules.specs.Layout.{fits};
 ghost use Rattle.gaugerules.specs.Script.{device};
-ghost use Rattle.scriptrules.specs.Run.{left, run};
+ghost use Rattle.flashrules.specs.Outcome.{outcome};
+ghost use Rattle.scriptrules.specs.Run.{lend, run};
+ghost use Rattle.scriptrules.specs.Parser.{start, endError};
 ghost use Rattle.scriptrules.specs.Replay.{poweredOn};
+ghost use Rattle.replay.specs.Checked.{Fed};
 ghost use Rattle.replay.specs.Held.{held, Longer, Turned, Passed};
 
-// The gauge, and which bytes of the buffer are text that has come and was not run.
+// The gauge, and which bytes of the buffer are text that has come and was not run; and how many were read in this turn.
 struct Held {
     gauge: Gauge,
     from: usize,
     to: usize,
+    read: usize,
     more: bool,
 }
 
@@ -51,7 +59,7 @@ fn read_behind(fd: i32, buffer: &mut [u8], kept: usize) -> Got
 
 struct Refilled {
     to: usize,
-    more: bool,
+    read: usize,
 }
 
 // More text is read behind what is held, which goes to the front of the buffer.
@@ -65,7 +73,7 @@ fn refill(fd: i32, buffer: &mut [u8], from: usize, to: usize) -> Refilled
     let n = got.count;
     Refilled {
         to: kept + n,
-        more: 0 < n,
+        read: n,
     }
 }
 
@@ -80,7 +88,7 @@ fn run_held(
     out: &mut [u8],
 ) -> Progress
     requires { ⌜ (from ≤ to) × (to ≤ length (now buffer)) ⌝ }
-    ensures { λ r. ⌜ left r (now (image .exit)) (now (out .exit)) ≡ run layout (now (image .entry)) gauge (held (now (buffer .entry)) from to) (now (out .entry)) ⌝ }
+    ensures { λ r. ⌜ outcome r (lend (now (image .exit)) (now (out .exit))) ≡ run layout (now (image .entry)) gauge (held (now (buffer .entry)) from to) (now (out .entry)) ⌝ }
     ensures { λ r. ⌜ (from + r .next ≤ to) × (r .length ≤ length (now (out .entry))) ⌝ }
 {
     run(layout, image, gauge, &buffer[from..to], out)
@@ -110,7 +118,8 @@ fn turn(
             gauge: after,
             from: 0,
             to: refilled.to,
-            more: refilled.more,
+            read: refilled.read,
+            more: 0 < refilled.read,
         };
     }
     let n = ran.length;
@@ -119,40 +128,64 @@ fn turn(
         gauge: after,
         from: next,
         to,
+        read: 0,
         more,
     }
 }
 
-// Turn after turn, from power-on; how long the text is that is held at the end. Nothing says that a file ends, so the loop counts down
+// How long the text is that is held at the end, and how many characters were read, modulo 2^64.
+struct Ended {
+    held: usize,
+    read: u64,
+}
+
+// Turn after turn, from power-on. Nothing says that a file ends, so the loop counts down
 // from a number that no run uses up.
-fn turns(fd: i32, layout: Layout, image: &mut [u8], buffer: &mut [u8], out: &mut [u8]) -> usize
-    ensures { λ r. ⌜ Passed layout (poweredOn (now (image .entry))) (now (image .exit)) r ⌝ }
+fn turns(fd: i32, layout: Layout, image: &mut [u8], buffer: &mut [u8], out: &mut [u8]) -> Ended
+    ensures { λ r. ⌜ Passed layout (poweredOn (now (image .entry))) (now (image .exit)) (r .held) ⌝ }
 {
     let mut gauge = power_on(BOOT_SEALED);
     let mut from = 0;
     let mut to = 0;
-    let mut left = u64::MAX;
-    while left > 0 {
+    let mut read: u64 = 0;
+    let mut turns = u64::MAX;
+    while turns > 0 {
         let held = turn(fd, layout, image, gauge, buffer, from, to, out);
         gauge = held.gauge;
         from = held.from;
         to = held.to;
+        read = wrapping_add_u64(read, held.read as u64);
         if held.more {
-            left -= 1;
+            turns -= 1;
         } else {
-            return to - from;
+            return Ended {
+                held: to - from,
+                read,
+            };
         }
     }
-    to - from
+    Ended {
+        held: to - from,
+        read,
+    }
 }
 
-// A script that was judged is run. Nothing of it is left at the end, unless the file changed meanwhile.
-pub(crate) fn replay(fd: i32, layout: Layout, image: &mut [u8]) {
+// A script that was parsed is run, over an image of the layout. All of it is read again and nothing of it is held at the end, unless the
+// file changed meanwhile.
+pub(crate) fn replay(fd: i32, layout: Layout, image: &mut [u8], state: Parser, count: u64)
+    requires { ⌜ fits layout (length (now image)) ≡ true ⌝ }
+    requires { ⌜ Fed start 0 state count ⌝ }
+    requires { ⌜ endError state ≡ 0 ⌝ }
+{
     let mut buffer = io::large_buffer();
     let mut out = io::large_buffer();
-    let left = turns(fd, layout, image, &mut buffer, &mut out);
+    let ended = turns(fd, layout, image, &mut buffer, &mut out);
     libc::close(fd);
-    if left != 0 {
-        complain(b"script.hex: not replayed to its end");
+    if ended.held != 0 {
+        report(b"script.hex: not replayed to its end");
+        return;
+    }
+    if ended.read != count {
+        report(b"script.hex: changed while it was replayed");
     }
 }

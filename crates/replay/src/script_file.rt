@@ -1,13 +1,21 @@
-// script.hex, judged.
-use crate::blame::blame_line;
+// script.hex, parsed.
+use crate::diagnose::diagnose_line;
 use crate::input::read_some;
 use scriptparser::end;
 use scriptparser::feed;
 use scriptparser::start;
-use scriptrules::judge::State;
-ghost use mathlib.Core.Path.{_≡_};
-ghost use lib.ListN.{take};
-ghost use Rattle.scriptrules.specs.Judge.{feed};
+use scriptrules::parser::Parser;
+use std::num::wrapping_add_u64;
+ghost use Rattle.scriptrules.specs.Parser.{start};
+ghost use Rattle.replay.specs.Checked.{Fed, ScriptChecked};
+
+// What the first pass found: whether it is a script and can be read once more from its start, the parser's state at its end, and how many
+// characters it has.
+pub(crate) struct Parsed {
+    pub good: bool,
+    pub state: Parser,
+    pub count: u64,
+}
 
 // A descriptor, or -1.
 pub(crate) fn open() -> i32 {
@@ -18,58 +26,85 @@ pub(crate) fn open() -> i32 {
     fd
 }
 
-// After another chunk of so many bytes, none at the end of the file.
+// After another chunk; so many characters were fed in all.
 struct Turn {
-    state: State,
-    count: usize,
+    state: Parser,
+    count: u64,
+    more: bool,
     failed: bool,
 }
 
-// A chunk is read and judged.
-fn judge_some(fd: i32, state: State, buffer: &mut [u8]) -> Turn
-    ensures { λ r. ⌜ r .state ≡ feed state (take (r .count) (now (buffer .exit))) ⌝ }
+// A chunk is fed to the parser.
+fn feed_chunk(state: Parser, count: u64, chunk: &[u8], failed: bool) -> Turn
+    ensures { λ r. ⌜ Fed state count (r .state) (r .count) ⌝ }
 {
-    let got = read_some(fd, b"script.hex", buffer);
-    let n = got.count;
-    let after = feed(state, &buffer[0..n]);
     Turn {
-        state: after,
-        count: n,
-        failed: got.failed,
+        state: feed(state, chunk),
+        count: wrapping_add_u64(count, chunk.len() as u64),
+        more: 0 < chunk.len(),
+        failed,
     }
 }
 
-// Nothing says that a file ends, so the loop counts its turns down from a number that no run uses up.
-fn judge_all(fd: i32, buffer: &mut [u8]) -> Turn {
-    let mut turn = judge_some(fd, start(), buffer);
+// A chunk is read and parsed.
+fn parse_some(fd: i32, state: Parser, count: u64, buffer: &mut [u8]) -> Turn
+    ensures { λ r. ⌜ Fed state count (r .state) (r .count) ⌝ }
+{
+    let got = read_some(fd, b"script.hex", buffer);
+    let n = got.count;
+    feed_chunk(state, count, &buffer[0..n], got.failed)
+}
+
+// All chunks. Nothing says that a file ends, so the loop counts its turns down from a number that no run uses up.
+fn parse_all(fd: i32, buffer: &mut [u8]) -> Turn
+    ensures { λ r. ⌜ Fed start 0 (r .state) (r .count) ⌝ }
+{
+    let mut turn = parse_some(fd, start(), 0, buffer);
     let mut turns = u64::MAX;
     while turns > 0 {
-        if turn.count == 0 {
+        if !turn.more {
             return turn;
         }
-        turn = judge_some(fd, turn.state, buffer);
+        turn = parse_some(fd, turn.state, turn.count, buffer);
         turns -= 1;
     }
     turn
 }
 
-// Whether it is a script, and can be read once more from its start.
-pub(crate) fn judged(fd: i32) -> bool {
+fn not_parsed() -> Parsed
+    ensures { λ r. ⌜ ScriptChecked (r .good) (r .state) (r .count) ⌝ }
+{
+    Parsed {
+        good: false,
+        state: start(),
+        count: 0,
+    }
+}
+
+// The first pass.
+pub(crate) fn parse(fd: i32) -> Parsed
+    ensures { λ r. ⌜ ScriptChecked (r .good) (r .state) (r .count) ⌝ }
+{
     if fd < 0 {
-        return false;
+        return not_parsed();
     }
     let mut buffer = io::large_buffer();
-    let turn = judge_all(fd, &mut buffer);
+    let turn = parse_all(fd, &mut buffer);
     if turn.failed {
-        return false;
+        return not_parsed();
     }
     if end(turn.state) != 0 {
-        blame_line(fd, &mut buffer);
-        return false;
+        diagnose_line(fd, &mut buffer);
+        return not_parsed();
     }
     if libc::lseek(fd, 0, libc::SEEK_SET) != 0 {
         os::fail(b"script.hex");
-        return false;
+        return not_parsed();
     }
-    true
+    let state = turn.state;
+    Parsed {
+        good: true,
+        state,
+        count: turn.count,
+    }
 }

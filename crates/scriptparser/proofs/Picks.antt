@@ -1,5 +1,4 @@
 -- How a choice by a field is answered, beside flashrules' `picks` and `calls`.
--- Assumes nothing.
 use mathlib.Core.Path.{_≡_}
 use mathlib.Core.Bool.{Bool, true, false, cond}
 

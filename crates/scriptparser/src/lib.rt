@@ -1,27 +1,27 @@
 // Whether a text is a script. The state goes in and comes back by value, so a script of any length is judged in chunks: `start`, `feed`
 // for each chunk, `end`.
-use flashrules::lookup::INVALID_LAYOUT;
+use flashrules::error::MALFORMED;
+use hextext::LINE_FEED;
 use hextext::value;
-use imagerules::text::LINE_FEED;
-use scriptrules::judge::MAX_FRAME;
-use scriptrules::judge::READ;
-use scriptrules::judge::State;
-use scriptrules::judge::WRITE;
+use scriptrules::parser::MAX_FRAME;
+use scriptrules::parser::Parser;
+use scriptrules::parser::READ;
+use scriptrules::parser::WRITE;
 ghost use mathlib.Core.Path.{_≡_};
-ghost use Rattle.scriptrules.specs.Judge.{start, broken, isDigit, isWhole, kindWith, withDigit, next, step, feed, endError, isFrame};
+ghost use Rattle.scriptrules.specs.Parser.{start, broken, isDigit, isWhole, kindWith, withDigit, withCharacter, feedByte, feed, endError, isFrame};
 
 // Before the first chunk.
-pub fn start() -> State
+pub fn start() -> Parser
     ensures { λ r. ⌜ r ≡ start ⌝ }
 {
-    State {
+    Parser {
         good: true,
         count: 0,
         kind: READ,
     }
 }
 
-fn broken() -> State
+fn broken() -> Parser
     ensures { λ r. ⌜ r ≡ broken ⌝ }
 {
     let mut state = start();
@@ -62,18 +62,18 @@ fn kind_with(kind: u8, c: u8) -> u8
     kind % 16 * 16 + value(c)
 }
 
-fn with_digit(count: usize, kind: u8, c: u8) -> State
+fn with_digit(count: usize, kind: u8, c: u8) -> Parser
     ensures { λ r. ⌜ r ≡ withDigit count kind c ⌝ }
 {
     if count < 2 * MAX_FRAME {
         if count < 2 {
-            return State {
+            return Parser {
                 good: true,
                 count: count + 1,
                 kind: kind_with(kind, c),
             };
         }
-        return State {
+        return Parser {
             good: true,
             count: count + 1,
             kind,
@@ -82,8 +82,8 @@ fn with_digit(count: usize, kind: u8, c: u8) -> State
     broken()
 }
 
-fn next(count: usize, kind: u8, c: u8) -> State
-    ensures { λ r. ⌜ r ≡ next count kind c ⌝ }
+fn with_character(count: usize, kind: u8, c: u8) -> Parser
+    ensures { λ r. ⌜ r ≡ withCharacter count kind c ⌝ }
 {
     if c == LINE_FEED {
         if is_whole(kind, count) {
@@ -97,30 +97,30 @@ fn next(count: usize, kind: u8, c: u8) -> State
     broken()
 }
 
-fn step(state: State, c: u8) -> State
-    ensures { λ r. ⌜ r ≡ step state c ⌝ }
+fn feed_byte(state: Parser, c: u8) -> Parser
+    ensures { λ r. ⌜ r ≡ feedByte state c ⌝ }
 {
     if state.good {
-        return next(state.count, state.kind, c);
+        return with_character(state.count, state.kind, c);
     }
     broken()
 }
 
 // The state after another chunk.
-pub fn feed(state: State, chunk: &[u8]) -> State
+pub fn feed(state: Parser, chunk: &[u8]) -> Parser
     ensures { λ r. ⌜ r ≡ feed state (now (chunk .entry)) ⌝ }
 {
     let mut after = state;
     let mut i = 0;
     while i < chunk.len() {
-        after = step(after, chunk[i]);
+        after = feed_byte(after, chunk[i]);
         i += 1;
     }
     after
 }
 
 // 0 where all that was fed is a script, 10 where it is not.
-pub fn end(state: State) -> u8
+pub fn end(state: Parser) -> u8
     ensures { λ r. ⌜ r ≡ endError state ⌝ }
 {
     if state.good {
@@ -128,7 +128,7 @@ pub fn end(state: State) -> u8
             return 0;
         }
     }
-    INVALID_LAYOUT
+    MALFORMED
 }
 
 // Whether a line, without its line feed, is a frame. A line feed in it would begin the count anew, so every byte must be counted.

@@ -1,5 +1,4 @@
 -- Frames, their bytes and their text, both ways.
--- Assumes nothing.
 use Prim.Native.Nat.{ℕ, _+_, _*_, _/_, _%_, _≤_}
 use mathlib.Core.Path.{_≡_, refl, sym, _∙_}
 use mathlib.Core.Bool.{true, false}
@@ -9,12 +8,11 @@ use native.Mathlib.Decide.{decLt}
 use lib.Dec.{eqb, leb}
 use lib.ListN.{length, getD}
 use borrow.Author.Tests.{lt-ltb, le-ltb, le-leb, leb-true, ne-eqb}
-use Rattle.hextext.specs.Hex.{digit, value, pair, hex, unhex}
+use Rattle.hextext.specs.Hex.{digit, value, pair, hex, unhex, lineFeed}
 use Rattle.hextext.proofs.HexLaws.{digit-low, digit-high, value-low, value-high, value-small, hex-back, unhex-length}
-use Rattle.flashrules.proofs.Picks.{all-first, all-rest}
-use Rattle.imagerules.specs.Text.{lineFeed}
+use Rattle.flashrules.proofs.Picks.{and-first, and-rest}
 use Rattle.scriptrules.specs.Frame.{Frame, writeFrame, readFrame, readKind, writeKind, frameBytes, lineOf, frameWith, frameOf}
-use Rattle.scriptrules.specs.Judge.{isDigit}
+use Rattle.scriptrules.specs.Parser.{isDigit}
 use Rattle.scriptrules.specs.Laws.{Sendable}
 
 -- ---- digits
@@ -31,7 +29,7 @@ module _ (c : ℕ) where
       elim (decLt c 65) [
         | yes h ↦
             let d = rw (lt-ltb c 65 h) at e in
-            low (leb-true 48 c (all-first (leb 48 c) _ d)) (leb-true c 57 (all-first (leb c 57) _ (all-rest (leb 48 c) _ d)))
+            low (leb-true 48 c (and-first (leb 48 c) _ d)) (leb-true c 57 (and-first (leb c 57) _ (and-rest (leb 48 c) _ d)))
         | no h ↦ high (omega arith) (leb-true c 70 (rw (le-ltb c 65 (omega arith)) at e))
       ]
 

@@ -1,9 +1,8 @@
 -- The claims of specs/Laws.antt, proved: what crates above cite. Each proof stands with the laws that it rests on.
--- Assumes nothing.
-pub use Rattle.scriptrules.proofs.JudgeLaws.{feed-chunks}
+pub use Rattle.scriptrules.proofs.ParserLaws.{feed-chunks}
 pub use Rattle.scriptrules.proofs.ScriptLaws.{accepted-line, accepted-script}
 pub use Rattle.scriptrules.proofs.ReplyLaws.{reply-length, nothing-printed}
 pub use Rattle.scriptrules.proofs.AnswerLaws.{one-by-one}
 pub use Rattle.scriptrules.proofs.RunLaws.{run-frames}
 pub use Rattle.scriptrules.proofs.HostLaws.{host-prints}
-pub use Rattle.scriptrules.proofs.SilenceLaws.{silent-frames, silent-output}
+pub use Rattle.scriptrules.proofs.NoninterferenceLaws.{frame-noninterference, output-noninterference}

@@ -1,10 +1,10 @@
 pub mod AnswerLaws
 pub mod FrameLaws
 pub mod HostLaws
-pub mod JudgeLaws
+pub mod ParserLaws
 pub mod Laws
 pub mod ReplyLaws
 pub mod RunLaws
 pub mod ScriptLaws
-pub mod SilenceLaws
+pub mod NoninterferenceLaws
 pub mod WholeLines

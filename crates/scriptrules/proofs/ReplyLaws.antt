@@ -1,5 +1,4 @@
 -- Laws of replies: how long one is, that none is empty, and frames one behind the other.
--- Assumes nothing.
 use Prim.Native.Nat.{ℕ, _+_, _*_, _≤_}
 use mathlib.Core.Path.{_≡_, refl, sym, ap, _∙_}
 use mathlib.Core.List.{List, [], _∷_, _++_, append-assoc}
@@ -7,32 +6,28 @@ use native.Mathlib.Omega.{arith}
 use lib.Dec.{eqb}
 use lib.ListN.{length, replicate, length-append, length-take}
 use borrow.Author.Tests.{eqb-true}
-use Rattle.hextext.specs.Hex.{hex}
-use Rattle.hextext.proofs.HexLaws.{hex-length}
+use Rattle.hextext.proofs.Laws.{line-length}
+use Rattle.flashrules.specs.Outcome.{outcome}
 use Rattle.flashrules.specs.declared.layout.Layout.{Layout}
 use Rattle.flashrules.proofs.Picks.{on-test}
-use Rattle.imagerules.specs.Text.{lineFeed}
-use Rattle.imagerules.specs.File as image
+use Rattle.imagerules.specs.File.{ParsedImage, imageFile, noImageFile, parseImage}
 use Rattle.gaugerules.specs.Register.{registers}
-use Rattle.gaugerules.specs.Read.{seen, readError, read}
+use Rattle.gaugerules.specs.Read.{readError, read}
 use Rattle.gaugerules.specs.Script.{Device, reply}
 use Rattle.gaugerules.specs.declared.state.Gauge.{Gauge}
 use Rattle.gaugerules.proofs.ReadLaws.{read-free}
 use Rattle.scriptrules.specs.Frame.{Frame, writeFrame, readFrame}
-use Rattle.scriptrules.specs.Judge.{Judged, script, refused, judge}
-use Rattle.scriptrules.specs.Reply.{replyLine, replyText, afterFrame, replies, afterFrames}
+use Rattle.scriptrules.specs.Parser.{ParsedScript, script, noScript, parseScript}
+use Rattle.scriptrules.specs.Reply.{replyText, afterFrame, replies, afterFrames}
 use Rattle.scriptrules.specs.Replay.{poweredOn, outputOf, replay}
 use Rattle.scriptrules.specs.Laws.{ReplyLength, NothingPrinted}
 use Rattle.scriptrules.proofs.ScriptLaws.{accepted-script}
 
 -- ---- one reply
 
-pub line-length : (bs : List ℕ) → length (replyLine bs) ≡ 2 * length bs + 1
-line-length bs = length-append (hex bs) (lineFeed ∷ []) ∙ rw (hex-length bs)
-
 -- a read takes no more bytes than it is lent room for
-pub read-accepts : (l : Layout) (image : List ℕ) (g : Gauge) (r n : ℕ) (buffer : List ℕ) → read l image g r n buffer .accepted ≤ length buffer
-unfolding read seen
+pub read-accepts : (l : Layout) (image : List ℕ) (g : Gauge) (r n : ℕ) (buffer : List ℕ) → read l image g r n buffer .answer .accepted ≤ length buffer
+unfolding read outcome
 read-accepts l image g r n buffer =
     on-test (eqb (readError l (length image) g r n (length buffer)) 0)
     (λ e. rw e (read-free l (length image) g r n (length buffer) (eqb-true _ _ e) .1)) (λ e. rw e (omega arith))
@@ -62,9 +57,9 @@ replies-none l d (f ∷ fs) e = absurd (omega (arith, reply-some l d f, simp len
 
 pub nothing-printed : NothingPrinted
 unfolding replay
-nothing-printed x y e = by (image.judge x) (judge y) refl e
+nothing-printed x y e = by (parseImage x) (parseScript y) refl e
   where
-    by : (i : image.Judged) (j : Judged) → judge y ≡ j → outputOf i j ≡ [] → y ≡ []
-    by (image.accepted l bytes) (script fs) p q = sym (accepted-script y [] .0 (rw (replies-none l (poweredOn bytes) fs q) at p) .text)
-    by (image.accepted l bytes) refused p q = absurd (omega (arith, ap length q))
-    by image.refused j p q = absurd (omega (arith, ap length q))
+    by : (i : ParsedImage) (j : ParsedScript) → parseScript y ≡ j → outputOf i j ≡ [] → y ≡ []
+    by (imageFile l bytes) (script fs) p q = sym (accepted-script y [] .0 (rw (replies-none l (poweredOn bytes) fs q) at p) .text)
+    by (imageFile l bytes) noScript p q = absurd (omega (arith, ap length q))
+    by noImageFile j p q = absurd (omega (arith, ap length q))

@@ -1,5 +1,4 @@
 -- Laws of a run over the lines of a text: what it did, line by line.
--- Assumes nothing.
 use Prim.Native.Nat.{ℕ, _+_, _≤_, _<_}
 use mathlib.Core.Path.{_≡_, refl, sym, ap, _∙_}
 use mathlib.Core.Bool.{true≢false}
@@ -11,15 +10,16 @@ use lib.ListN.{length, take, drop, length-append}
 use lib.Seq.{sets, length-sets, take-at, drop-at}
 use borrow.Author.Tests.{ltb-true, ltb-false}
 use Rattle.hextext.proofs.StoreLaws.{sets-append}
-use Rattle.flashrules.specs.Answer.{invalidLayout, shortBuffer}
+use Rattle.flashrules.specs.Error.{malformed, shortBuffer}
 use Rattle.flashrules.specs.declared.layout.Layout.{Layout}
 use Rattle.flashrules.proofs.Picks.{on-test}
-use Rattle.imagerules.specs.Text.{lineFeed}
+use Rattle.hextext.specs.Hex.{lineFeed}
 use Rattle.gaugerules.specs.Script.{Device, device}
-use Rattle.scriptrules.specs.Frame.{Frame, lineOf, scriptOf, linesOf, frameOf}
-use Rattle.scriptrules.specs.Judge.{isFrame}
+use Rattle.scriptrules.specs.Frame.{Frame, lineOf, serializeScript, linesOf, frameOf}
+use Rattle.scriptrules.specs.Parser.{isFrame}
 use Rattle.scriptrules.specs.Reply.{replyText, maxReply, afterFrame, replies, afterFrames}
-use Rattle.scriptrules.specs.Run.{Left, left, answerFrame, progress, runLines, run}
+use Rattle.flashrules.specs.Outcome.{Outcome, outcome}
+use Rattle.scriptrules.specs.Run.{Lent, lend, runFrame, progress, runLines, run}
 use Rattle.scriptrules.specs.Laws.{Sendable, AllSendable, IsLine, Ran, RunFrames}
 use Rattle.scriptrules.specs.declared.answer.Progress.{Progress}
 use Rattle.scriptrules.proofs.ScriptLaws.{accepted-line}
@@ -31,29 +31,29 @@ use Rattle.scriptrules.proofs.AnswerLaws.{answer-runs, answer-full, ans
 
 -- why a run of lines ended with error e: `rest` is the text left, and n characters of the buffer's `room` are replies
 record Stop (rest : List ℕ) (room e n : ℕ) : Type 0 where
-  errors : (e ≡ 0) ⊎ ((e ≡ invalidLayout) ⊎ (e ≡ shortBuffer))
+  errors : (e ≡ 0) ⊎ ((e ≡ malformed) ⊎ (e ≡ shortBuffer))
   ended : e ≡ 0 → linesOf rest ≡ []
-  wrong : e ≡ invalidLayout → (f : Frame) (y : List ℕ) → Sendable f → rest ≡ lineOf f ++ (lineFeed ∷ y) → ⊥
+  wrong : e ≡ malformed → (f : Frame) (y : List ℕ) → Sendable f → rest ≡ lineOf f ++ (lineFeed ∷ y) → ⊥
   full : e ≡ shortBuffer → room < n + maxReply
 
 -- what is claimed of a run over a text that begins at `next`, with n characters of replies before
-record Went (l : Layout) (d : Device) (x buffer : List ℕ) (next n : ℕ) (s : Left Progress) : Type 0 where
+record Went (l : Layout) (d : Device) (x buffer : List ℕ) (next n : ℕ) (s : Outcome Progress Lent) : Type 0 where
   frames : List Frame
   rest : List ℕ
   sendable : AllSendable frames
-  text : x ≡ scriptOf frames ++ rest
-  end : s .answer .next ≡ next + length (scriptOf frames)
-  output : s .buffer ≡ sets buffer n (replies l d frames)
+  text : x ≡ serializeScript frames ++ rest
+  end : s .answer .next ≡ next + length (serializeScript frames)
+  output : s .lent .buffer ≡ sets buffer n (replies l d frames)
   size : s .answer .length ≡ n + length (replies l d frames)
   inside : s .answer .length ≤ length buffer
-  after : device (s .answer .gauge) (s .image) ≡ afterFrames l d frames
+  after : device (s .answer .gauge) (s .lent .image) ≡ afterFrames l d frames
   stop : Stop rest (length buffer) (s .answer .error) (s .answer .length)
 
 module _ (l : Layout) (d : Device) where
   -- it ends at once
   went-none : (x buffer : List ℕ) (next n e : ℕ) → n ≤ length buffer → Stop x (length buffer) e n
-      → Went l d x buffer next n (left (progress e (d .gauge) next n) (d .image) buffer)
-  unfolding left
+      → Went l d x buffer next n (outcome (progress e (d .gauge) next n) (lend (d .image) buffer))
+  unfolding outcome
   went-none x buffer next n e h p = record {
     frames = [];
     rest = x;
@@ -68,7 +68,7 @@ module _ (l : Layout) (d : Device) where
   }
 
   -- it runs one frame, and goes on behind its line
-  went-more : (f : Frame) (line x y buffer : List ℕ) (next n : ℕ) (s : Left Progress) → IsLine f line → x ≡ line ++ (lineFeed ∷ y)
+  went-more : (f : Frame) (line x y buffer : List ℕ) (next n : ℕ) (s : Outcome Progress Lent) → IsLine f line → x ≡ line ++ (lineFeed ∷ y)
       → let r = replyText l d f in
       Went l (afterFrame l d f) y (sets buffer n r) (next + length line + 1) (n + length r) s → Went l d x buffer next n s
   went-more f line x y buffer next n s p q w = record {
@@ -84,11 +84,11 @@ module _ (l : Layout) (d : Device) where
     stop = rw length-sets at (w .stop);
   }
 
-  went-ran : (x buffer : List ℕ) (s : Left Progress) → Went l d x buffer 0 0 s → Ran l d x buffer s
+  went-ran : (x buffer : List ℕ) (s : Outcome Progress Lent) → Went l d x buffer 0 0 s → Ran l d x buffer s
   went-ran x buffer s w =
-      let e : length (scriptOf (w .frames)) ≡ s .answer .next = omega (arith, w .end) in
-      let t = ap (take (s .answer .next)) (w .text) ∙ take-at (scriptOf (w .frames)) (w .rest) (s .answer .next) e in
-      let u = ap (drop (s .answer .next)) (w .text) ∙ drop-at (scriptOf (w .frames)) (w .rest) (s .answer .next) e in
+      let e : length (serializeScript (w .frames)) ≡ s .answer .next = omega (arith, w .end) in
+      let t = ap (take (s .answer .next)) (w .text) ∙ take-at (serializeScript (w .frames)) (w .rest) (s .answer .next) e in
+      let u = ap (drop (s .answer .next)) (w .text) ∙ drop-at (serializeScript (w .frames)) (w .rest) (s .answer .next) e in
       record {
         frames = w .frames;
         text = record { sendable = w .sendable; text = sym t };
@@ -113,7 +113,7 @@ module _ (l : Layout) where
       → Went l d x buffer next n (runLines l (d .image) (d .gauge) lines buffer next n)
 
   one-more : (z : List ℕ) (zs : List (List ℕ)) → Goes zs → Goes (z ∷ zs)
-  unfolding left answerFrame
+  unfolding outcome runFrame
   one-more z zs ih d x buffer next n e h =
       on-test (isFrame z)
       (λ t.
@@ -132,7 +132,7 @@ module _ (l : Layout) where
       rw (answer-runs l d z buffer n t room) (went-more l d f z x (b .rest) buffer next n _ (accepted-line z f .0 (t, refl)) (b .whole) w)))
       (λ t.
       rw (answer-wrong l d z buffer n t)
-      (went-none l d x buffer next n invalidLayout h
+      (went-none l d x buffer next n malformed h
       (record {
         errors = inr (inl refl);
         ended = λ q. absurd (omega arith);

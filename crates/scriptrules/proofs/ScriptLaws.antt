@@ -1,5 +1,4 @@
 -- Which lines and which texts are accepted: those of frames that can be sent, and no others.
--- Assumes nothing.
 use Prim.Native.Nat.{ℕ, _*_, _≤_}
 use mathlib.Core.Path.{_≡_, refl, _∙_}
 use mathlib.Core.Bool.{true, false}
@@ -8,17 +7,16 @@ use native.Mathlib.Omega.{arith}
 use lib.Dec.{eqb}
 use lib.ListN.{length, getD}
 use borrow.Author.Tests.{eqb-true, eq-eqb}
-use Rattle.hextext.specs.Hex.{unhex}
+use Rattle.hextext.specs.Hex.{unhex, lineFeed}
 use Rattle.hextext.proofs.HexLaws.{hex-length, pair-back, unhex-bytes}
-use Rattle.flashrules.proofs.Picks.{all-first, all-rest, on-test}
-use Rattle.imagerules.specs.Text.{lineFeed}
-use Rattle.scriptrules.specs.Frame.{Frame, writeFrame, readFrame, readKind, writeKind, frameBytes, maxFrame, lineOf, scriptOf, linesFrom, linesOf, frameOf, framesOf}
-use Rattle.scriptrules.specs.Judge.{start, broken, isWhole, feed, endError, script, refused, judge, isFrame}
+use Rattle.flashrules.proofs.Picks.{and-first, and-rest, on-test}
+use Rattle.scriptrules.specs.Frame.{Frame, writeFrame, readFrame, readKind, writeKind, frameBytes, maxFrame, lineOf, serializeScript, linesAfter, linesOf, frameOf, framesOf}
+use Rattle.scriptrules.specs.Parser.{start, broken, isWhole, feed, endError, script, noScript, parseScript, isFrame}
 use Rattle.scriptrules.specs.Laws.{Sendable, AllSendable, IsScript, AcceptedScript, IsLine, AcceptedLine}
 use Rattle.scriptrules.proofs.FrameLaws.{hex-digits, hex-unhex, unhex-half, line-back, read-back, write-back}
 use Rattle.scriptrules.proofs.WholeLines.{lines-line}
-use Rattle.scriptrules.proofs.JudgeLaws.{feed-chunks, never-good, end-good, end-none, kindOf, after, Typed, typed-none, on-step, feed-line, feed-typed}
-use Rattle.scriptrules.proofs.JudgeLaws.{step-end, Whole, reads, writes, whole, is-whole, whole-least, whole-even}
+use Rattle.scriptrules.proofs.ParserLaws.{feed-chunks, never-good, end-good, end-none, kindOf, after, Typed, typed-none, on-feed-byte, feed-line, feed-typed}
+use Rattle.scriptrules.proofs.ParserLaws.{feed-byte-end, Whole, reads, writes, whole, is-whole, whole-least, whole-even}
 
 -- ---- a whole line is the line of its frame
 
@@ -58,7 +56,7 @@ module _ (f : Frame) (s : Sendable f) where
 
   -- with its line feed, it leads from the start to the start
   pub feed-frame : (y : List ℕ) → feed start (lineOf f ++ (lineFeed ∷ y)) ≡ feed start y
-  feed-frame y = feed-chunks start (lineOf f) (lineFeed ∷ y) ∙ rw (line-state, step-end (lineOf f) (line-whole f))
+  feed-frame y = feed-chunks start (lineOf f) (lineFeed ∷ y) ∙ rw (line-state, feed-byte-end (lineOf f) (line-whole f))
 
 -- ---- lines, without their line feeds
 
@@ -67,12 +65,12 @@ module _ (line : List ℕ) (e : isFrame line ≡ true) where
   unfolding isFrame
   frame-typed =
       let s = feed start line in
-      let n = eqb-true (s .count) (length line) (all-first (eqb (s .count) (length line)) _ (all-rest (s .good) _ e)) in
-      feed-typed [] line typed-none (all-first (s .good) _ e) (omega arith)
+      let n = eqb-true (s .count) (length line) (and-first (eqb (s .count) (length line)) _ (and-rest (s .good) _ e)) in
+      feed-typed [] line typed-none (and-first (s .good) _ e) (omega arith)
 
   frame-whole : Whole (kindOf line) (length line)
   unfolding isFrame
-  frame-whole = whole _ _ (all-first _ _ (rw (feed-line line frame-typed, eq-eqb (length line) (length line) refl) at e))
+  frame-whole = whole _ _ (and-first _ _ (rw (feed-line line frame-typed, eq-eqb (length line) (length line) refl) at e))
 
   pub frame-least : 4 ≤ length line
   frame-least = whole-least _ _ frame-whole
@@ -91,21 +89,21 @@ accepted-line line f = (λ a. rw (a .1) at (frame-line line (a .0)), λ l. rw (�
 
 -- ---- texts
 
-pub feed-script : (fs : List Frame) → AllSendable fs → feed start (scriptOf fs) ≡ start
+pub feed-script : (fs : List Frame) → AllSendable fs → feed start (serializeScript fs) ≡ start
 feed-script [] s = refl
-feed-script (f ∷ fs) s = feed-frame f (s .0) (scriptOf fs) ∙ feed-script fs (s .1)
+feed-script (f ∷ fs) s = feed-frame f (s .0) (serializeScript fs) ∙ feed-script fs (s .1)
 
 -- the frames of a text that begins with these
-pub frames-script : (fs : List Frame) (y : List ℕ) → AllSendable fs → framesOf (linesOf (scriptOf fs ++ y)) ≡ fs ++ framesOf (linesOf y)
+pub frames-script : (fs : List Frame) (y : List ℕ) → AllSendable fs → framesOf (linesOf (serializeScript fs ++ y)) ≡ fs ++ framesOf (linesOf y)
 frames-script [] y s = refl
-frames-script (f ∷ fs) y s = rw (append-assoc (lineOf f) (lineFeed ∷ scriptOf fs) y, lines-line f (scriptOf fs ++ y), line-back f (s .0), frames-script fs y (s .1))
+frames-script (f ∷ fs) y s = rw (append-assoc (lineOf f) (lineFeed ∷ serializeScript fs) y, lines-line f (serializeScript fs ++ y), line-back f (s .0), frames-script fs y (s .1))
 
-frames-back : (fs : List Frame) → AllSendable fs → framesOf (linesOf (scriptOf fs)) ≡ fs
+frames-back : (fs : List Frame) → AllSendable fs → framesOf (linesOf (serializeScript fs)) ≡ fs
 frames-back fs s = simp append-nil at (frames-script fs [] s)
 
 -- a text is that of the frames read from it; `line` stands before it, in its first line
 abbrev IsRead : List ℕ → List ℕ → Type 0
-IsRead line x = IsScript (framesOf (linesFrom line x)) (line ++ x)
+IsRead line x = IsScript (framesOf (linesAfter line x)) (line ++ x)
 
 module _ (line x : List ℕ) (c : ℕ) where
   read-end : Typed line → eqb c lineFeed ≡ true → isWhole (kindOf line) (length line) ≡ true → IsRead [] x → IsRead line (c ∷ x)
@@ -120,25 +118,25 @@ read-from : (line x : List ℕ) → Typed line → endError (feed (after line) x
 read-from [] [] t e = record { sendable = tt; text = refl }
 read-from (a ∷ line) [] t e = absurd (let z = end-none (after (a ∷ line)) e in omega arith)
 read-from line (c ∷ x) t e =
-    on-step line c (λ s. endError (feed s x) ≡ 0 → IsRead line (c ∷ x)) t (λ p w h. read-end line x c t p w (read-from [] x typed-none h))
+    on-feed-byte line c (λ s. endError (feed s x) ≡ 0 → IsRead line (c ∷ x)) t (λ p w h. read-end line x c t p w (read-from [] x typed-none h))
     (λ p u h. read-more line x c p (read-from (line ++ (c ∷ [])) x u h)) (λ h. never-good x (end-good (feed broken x) h)) e
 
 pub read-script : (x : List ℕ) → endError (feed start x) ≡ 0 → IsScript (framesOf (linesOf x)) x
 read-script x e = read-from [] x typed-none e
 
 module _ (x : List ℕ) (fs : List Frame) where
-  judge-is : judge x ≡ script fs → IsScript fs x
-  unfolding judge
+  judge-is : parseScript x ≡ script fs → IsScript fs x
+  unfolding parseScript
   judge-is e =
       on-test (eqb (endError (feed start x)) 0)
       (λ t.
       let p : script (framesOf (linesOf x)) ≡ script fs = rw t at e in
       let q : framesOf (linesOf x) ≡ fs = cc in
       rw q at (read-script x (eqb-true _ _ t)))
-      (λ t. let p : refused ≡ script fs = rw t at e in let z : _≡_ {A = ℕ} 0 1 = cc in absurd (omega arith))
+      (λ t. let p : noScript ≡ script fs = rw t at e in let z : _≡_ {A = ℕ} 0 1 = cc in absurd (omega arith))
 
-  is-judge : IsScript fs x → judge x ≡ script fs
-  unfolding judge endError
+  is-judge : IsScript fs x → parseScript x ≡ script fs
+  unfolding parseScript endError
   is-judge s = rw (← s .text, feed-script fs (s .sendable), frames-back fs (s .sendable))
 
 pub accepted-script : AcceptedScript

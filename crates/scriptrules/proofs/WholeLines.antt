@@ -1,5 +1,4 @@
 -- Laws of the whole lines of a text: the first one, and the text behind it.
--- Assumes nothing.
 use Prim.Native.Nat.{ℕ}
 use mathlib.Core.Path.{_≡_}
 use mathlib.Core.List.{List, [], _∷_, _++_, append-assoc, append-nil}
@@ -7,12 +6,12 @@ use native.Mathlib.Omega.{arith}
 use lib.Dec.{eqb}
 use borrow.Author.Tests.{eqb-true}
 use Rattle.flashrules.proofs.Picks.{on-test}
-use Rattle.imagerules.specs.Text.{lineFeed}
-use Rattle.scriptrules.specs.Frame.{Frame, frameBytes, lineOf, linesFrom, linesOf}
+use Rattle.hextext.specs.Hex.{lineFeed}
+use Rattle.scriptrules.specs.Frame.{Frame, frameBytes, lineOf, linesAfter, linesOf}
 use Rattle.scriptrules.proofs.FrameLaws.{digit-other, Digits, hex-digits}
 
 -- digits go into the line that is not ended
-lines-digits : (line x y : List ℕ) → Digits x → linesFrom line (x ++ y) ≡ linesFrom (line ++ x) y
+lines-digits : (line x y : List ℕ) → Digits x → linesAfter line (x ++ y) ≡ linesAfter (line ++ x) y
 lines-digits line [] y d = rw append-nil
 lines-digits line (c ∷ x) y d = rw (digit-other c (d .0), lines-digits (line ++ (c ∷ [])) x y (d .1), append-assoc)
 
@@ -25,7 +24,7 @@ pub record Behind (x line : List ℕ) (lines : List (List ℕ)) : Type 0 where
   pub whole : x ≡ line ++ (lineFeed ∷ rest)
   pub more : linesOf rest ≡ lines
 
-pub lines-behind : (line x z : List ℕ) (zs : List (List ℕ)) → linesFrom line x ≡ z ∷ zs → Behind (line ++ x) z zs
+pub lines-behind : (line x z : List ℕ) (zs : List (List ℕ)) → linesAfter line x ≡ z ∷ zs → Behind (line ++ x) z zs
 lines-behind line [] z zs e = let q : _≡_ {A = ℕ} 0 1 = cc in absurd (omega arith)
 lines-behind line (c ∷ cs) z zs e =
     on-test (eqb c lineFeed)

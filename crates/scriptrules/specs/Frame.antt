@@ -1,13 +1,11 @@
--- Frames and the text of a script. Document 01, "The replay program": "Script: one frame a line, digits and line ends as in the image; 01, register,
--- 0 to 255 bytes (write); 00, register, count (read). It may be empty."
--- Assumes nothing.
+-- Frames and the text of a script. Document 01, "The replay program": "Script: one frame a line, digits and line ends
+-- as in the image; 01, register, 0 to 255 bytes (write); 00, register, count (read). It may be empty."
 use Prim.Native.Nat.{ℕ}
 use mathlib.Core.Bool.{cond}
 use mathlib.Core.List.{List, [], _∷_, _++_}
 use lib.Dec.{eqb}
 use lib.ListN.{getD, drop}
-use Rattle.hextext.specs.Hex.{hex, unhex}
-use Rattle.imagerules.specs.Text.{lineFeed}
+use Rattle.hextext.specs.Hex.{hex, unhex, lineFeed}
 
 -- ---- frames
 
@@ -37,23 +35,24 @@ maxFrame = 257
 abbrev pub lineOf : Frame → List ℕ
 lineOf f = hex (frameBytes f)
 
-abbrev pub scriptOf : List Frame → List ℕ
-scriptOf [] = []
-scriptOf (f ∷ fs) = lineOf f ++ (lineFeed ∷ scriptOf fs)
+abbrev pub serializeScript : List Frame → List ℕ
+serializeScript [] = []
+serializeScript (f ∷ fs) = lineOf f ++ (lineFeed ∷ serializeScript fs)
 
 -- ---- and back, asking nothing of the text: specs/Judge.antt says which texts are scripts
 
 -- the whole lines of a text, each without its line feed; `line` stands before the text, in its first line
-abbrev pub linesFrom : List ℕ → List ℕ → List (List ℕ)
-linesFrom line [] = []
-linesFrom line (c ∷ cs) = cond (eqb c lineFeed) (line ∷ linesFrom [] cs) (linesFrom (line ++ (c ∷ [])) cs)
+abbrev pub linesAfter : List ℕ → List ℕ → List (List ℕ)
+linesAfter line [] = []
+linesAfter line (c ∷ cs) = cond (eqb c lineFeed) (line ∷ linesAfter [] cs) (linesAfter (line ++ (c ∷ [])) cs)
 
 abbrev pub linesOf : List ℕ → List (List ℕ)
-linesOf x = linesFrom [] x
+linesOf x = linesAfter [] x
 
 -- the frame that has these bytes; where none has them, some frame
 abbrev pub frameWith : List ℕ → Frame
-frameWith bs = cond (eqb (getD bs 0 0) readKind) (readFrame (getD bs 1 0) (getD bs 2 0)) (writeFrame (getD bs 1 0) (drop 2 bs))
+frameWith bs =
+    cond (eqb (getD bs 0 0) readKind) (readFrame (getD bs 1 0) (getD bs 2 0)) (writeFrame (getD bs 1 0) (drop 2 bs))
 
 abbrev pub frameOf : List ℕ → Frame
 frameOf line = frameWith (unhex line)

@@ -1,6 +1,6 @@
--- A host of the calls: a program that gets a script piece by piece, runs what it has, and prints the replies. What it does is a list of steps, so
--- that a claim about every list of steps is one about every way to cut a script and every buffer lent.
--- Assumes nothing.
+-- A host of the calls: a program that gets a script piece by piece, runs what it has, and prints the replies. What it
+-- does is a list of steps, so that a claim about every list of steps is one about every way to cut a script and every
+-- buffer lent.
 use Prim.Native.Nat.{ℕ}
 use mathlib.Core.List.{List, [], _∷_, _++_}
 use lib.ListN.{take, drop}
@@ -9,9 +9,9 @@ use Rattle.gaugerules.specs.Script.{Device, device}
 use Rattle.scriptrules.specs.Run.{run}
 
 -- more of the script comes; `run` is called on what is held, with a buffer
-pub data Step : Type 0 where
-  arrives : List ℕ → Step
-  runs : List ℕ → Step
+pub data Event : Type 0 where
+  arrives : List ℕ → Event
+  runs : List ℕ → Event
 
 -- the device, the text that has come and was not run, and all that was printed
 pub record Host : Type 0 where
@@ -22,18 +22,19 @@ pub record Host : Type 0 where
 abbrev pub host : Device → List ℕ → List ℕ → Host
 host d held printed = record { device = d; held = held; printed = printed }
 
-abbrev pub step : Layout → Host → Step → Host
-step l h (arrives x) = host (h .device) (h .held ++ x) (h .printed)
-step l h (runs buffer) =
+abbrev pub handle : Layout → Host → Event → Host
+handle l h (arrives x) = host (h .device) (h .held ++ x) (h .printed)
+handle l h (runs buffer) =
     let s = run l (h .device .image) (h .device .gauge) (h .held) buffer in
-    host (device (s .answer .gauge) (s .image)) (drop (s .answer .next) (h .held)) (h .printed ++ take (s .answer .length) (s .buffer))
+    host (device (s .answer .gauge) (s .lent .image)) (drop (s .answer .next) (h .held))
+    (h .printed ++ take (s .answer .length) (s .lent .buffer))
 
-abbrev pub steps : Layout → Host → List Step → Host
-steps l h [] = h
-steps l h (s ∷ ss) = steps l (step l h s) ss
+abbrev pub handleAll : Layout → Host → List Event → Host
+handleAll l h [] = h
+handleAll l h (s ∷ ss) = handleAll l (handle l h s) ss
 
 -- all that came
-abbrev pub arrived : List Step → List ℕ
+abbrev pub arrived : List Event → List ℕ
 arrived [] = []
 arrived (arrives x ∷ ss) = x ++ arrived ss
 arrived (runs buffer ∷ ss) = arrived ss

@@ -1,5 +1,5 @@
--- What is claimed of scripts and of the replay, beyond the definitions. proofs/Laws.antt has a proof of each claim, under its name in small letters.
--- Assumes nothing.
+-- What is claimed of scripts and of the replay, beyond the definitions. proofs/Laws.antt has a proof of each claim,
+-- under its name in small letters.
 use Prim.Native.Nat.{ℕ, _+_, _≤_, _<_}
 use mathlib.Core.Path.{_≡_}
 use mathlib.Core.Logic.{_↔_, _⊎_}
@@ -7,22 +7,23 @@ use mathlib.Core.Bool.{Bool, true, not}
 use mathlib.Core.List.{List, [], _∷_, _++_}
 use lib.ListN.{length, take, drop}
 use lib.Seq.{sets}
-use Rattle.flashrules.specs.Answer.{invalidLayout, shortBuffer}
-use Rattle.flashrules.specs.Choice.{all}
+use Rattle.flashrules.specs.Error.{malformed, shortBuffer}
+use Rattle.flashrules.specs.Choice.{and}
 use Rattle.flashrules.specs.Layout.{fits}
 use Rattle.flashrules.specs.Image.{Bytes}
 use Rattle.flashrules.specs.declared.layout.Layout.{Layout}
-use Rattle.imagerules.specs.Text.{lineFeed}
-use Rattle.imagerules.specs.File as image
+use Rattle.hextext.specs.Hex.{lineFeed}
+use Rattle.imagerules.specs.File.{imageFile, parseImage}
 use Rattle.gaugerules.specs.Script.{Device, device, unseals}
-use Rattle.gaugerules.specs.Laws.{Agree, Kept}
-use Rattle.scriptrules.specs.Frame.{Frame, frameBytes, maxFrame, lineOf, scriptOf, linesOf, frameOf}
-use Rattle.scriptrules.specs.Judge.{start, feed, endError, isFrame, script, judge}
+use Rattle.gaugerules.specs.Noninterference.{Agree, Kept}
+use Rattle.scriptrules.specs.Frame.{Frame, frameBytes, maxFrame, lineOf, serializeScript, linesOf, frameOf}
+use Rattle.scriptrules.specs.Parser.{start, feed, endError, isFrame, script, parseScript}
 use Rattle.scriptrules.specs.Reply.{callOf, replyText, maxReply, afterFrame, replies, afterFrames}
 use Rattle.scriptrules.specs.Replay.{poweredOn, replay}
-use Rattle.scriptrules.specs.Run.{Left, answer, run}
-use Rattle.scriptrules.specs.Host.{Step, host, steps, arrived}
-use Rattle.scriptrules.specs.declared.judge.State.{State}
+use Rattle.flashrules.specs.Outcome.{Outcome}
+use Rattle.scriptrules.specs.Run.{Lent, runLine, run}
+use Rattle.scriptrules.specs.Host.{Event, host, handleAll, arrived}
+use Rattle.scriptrules.specs.declared.parser.Parser.{Parser}
 use Rattle.scriptrules.specs.declared.answer.Progress.{Progress}
 
 -- ---- which texts are scripts
@@ -39,11 +40,11 @@ AllSendable (f ∷ fs) = Sendable f × AllSendable fs
 -- a text is the text of these frames
 pub record IsScript (fs : List Frame) (x : List ℕ) : Type 0 where
   pub sendable : AllSendable fs
-  pub text : scriptOf fs ≡ x
+  pub text : serializeScript fs ≡ x
 
 -- a text is accepted as these frames exactly if it is their text
 abbrev pub AcceptedScript : Type 0
-AcceptedScript = (x : List ℕ) (fs : List Frame) → (judge x ≡ script fs) ↔ IsScript fs x
+AcceptedScript = (x : List ℕ) (fs : List Frame) → (parseScript x ≡ script fs) ↔ IsScript fs x
 
 -- the same of one line
 pub record IsLine (f : Frame) (line : List ℕ) : Type 0 where
@@ -55,7 +56,7 @@ AcceptedLine = (line : List ℕ) (f : Frame) → ((isFrame line ≡ true) × (fr
 
 -- chunks one after the other equal the whole
 abbrev pub FeedChunks : Type 0
-FeedChunks = (s : State) (x y : List ℕ) → feed s (x ++ y) ≡ feed (feed s x) y
+FeedChunks = (s : Parser) (x y : List ℕ) → feed s (x ++ y) ≡ feed (feed s x) y
 
 -- ---- replies
 
@@ -72,30 +73,34 @@ NothingPrinted = (x y : List ℕ) → replay x y ≡ [] → y ≡ []
 abbrev pub oneByOne : Layout → Device → List ℕ → List Frame → List ℕ
 oneByOne l d buffer [] = []
 oneByOne l d buffer (f ∷ fs) =
-    let a = answer l (d .image) (d .gauge) (lineOf f) buffer 0 in
-    take (a .answer .length) (a .buffer) ++ oneByOne l (device (a .answer .gauge) (a .image)) (a .buffer) fs
+    let a = runLine l (d .image) (d .gauge) (lineOf f) buffer 0 in
+    take (a .answer .length) (a .lent .buffer)
+    ++ oneByOne l (device (a .answer .gauge) (a .lent .image)) (a .lent .buffer) fs
 
 abbrev pub OneByOne : Type 0
 OneByOne =
-    (x y buffer : List ℕ) (l : Layout) (bytes : List ℕ) (fs : List Frame) → image.judge x ≡ image.accepted l bytes → judge y ≡ script fs
+    (x y buffer : List ℕ) (l : Layout) (bytes : List ℕ) (fs : List Frame) → parseImage x ≡ imageFile l bytes
+    → parseScript y ≡ script fs
     → maxReply ≤ length buffer → oneByOne l (poweredOn bytes) buffer fs ≡ replay x y
 
 -- ---- what `run` did: s is what it left, of a device, a text and a buffer
 
-pub record Ran (l : Layout) (d : Device) (x buffer : List ℕ) (s : Left Progress) : Type 0 where
+pub record Ran (l : Layout) (d : Device) (x buffer : List ℕ) (s : Outcome Progress Lent) : Type 0 where
   -- it ran these frames, which the text begins with
   pub frames : List Frame
   pub text : IsScript frames (take (s .answer .next) x)
   pub within : s .answer .next ≤ length x
   -- their replies are what it put into the buffer
-  pub output : s .buffer ≡ sets buffer 0 (replies l d frames)
+  pub output : s .lent .buffer ≡ sets buffer 0 (replies l d frames)
   pub size : s .answer .length ≡ length (replies l d frames)
   pub inside : s .answer .length ≤ length buffer
-  pub after : device (s .answer .gauge) (s .image) ≡ afterFrames l d frames
-  -- and it stopped where no whole line is left, where one is that is no frame, or where there was no room for one reply more
-  pub errors : (s .answer .error ≡ 0) ⊎ ((s .answer .error ≡ invalidLayout) ⊎ (s .answer .error ≡ shortBuffer))
+  pub after : device (s .answer .gauge) (s .lent .image) ≡ afterFrames l d frames
+  -- and it stopped where no whole line is left, where one is that is no frame, or where there was no room for one
+  -- reply more
+  pub errors : (s .answer .error ≡ 0) ⊎ ((s .answer .error ≡ malformed) ⊎ (s .answer .error ≡ shortBuffer))
   pub ended : s .answer .error ≡ 0 → linesOf (drop (s .answer .next) x) ≡ []
-  pub wrong : s .answer .error ≡ invalidLayout → (f : Frame) (y : List ℕ) → Sendable f → drop (s .answer .next) x ≡ lineOf f ++ (lineFeed ∷ y) → ⊥
+  pub wrong : s .answer .error ≡ malformed → (f : Frame) (y : List ℕ) → Sendable f
+      → drop (s .answer .next) x ≡ lineOf f ++ (lineFeed ∷ y) → ⊥
   pub full : s .answer .error ≡ shortBuffer → length buffer < s .answer .length + maxReply
 
 abbrev pub RunFrames : Type 0
@@ -104,30 +109,38 @@ RunFrames = (l : Layout) (d : Device) (x buffer : List ℕ) → Ran l d x buffer
 -- however a script is cut and whatever buffers are lent: a host that has run all of it has printed the output
 abbrev pub HostPrints : Type 0
 HostPrints =
-    (x y : List ℕ) (l : Layout) (bytes : List ℕ) (ss : List Step) → image.judge x ≡ image.accepted l bytes → endError (feed start y) ≡ 0
-    → arrived ss ≡ y → let h = steps l (host (poweredOn bytes) [] []) ss in
+    (x y : List ℕ) (l : Layout) (bytes : List ℕ) (ss : List Event) → parseImage x ≡ imageFile l bytes
+    → endError (feed start y) ≡ 0
+    → arrived ss ≡ y → let h = handleAll l (host (poweredOn bytes) [] []) ss in
     h .held ≡ [] → h .printed ≡ replay x y
 
 -- ---- demand 3, of outputs
 
 abbrev pub staySealed : Layout → Device → List Frame → Bool
 staySealed l d [] = true
-staySealed l d (f ∷ fs) = all (not (unseals l d (callOf f)) ∷ staySealed l (afterFrame l d f) fs ∷ [])
+staySealed l d (f ∷ fs) = and (not (unseals l d (callOf f)) ∷ staySealed l (afterFrame l d f) fs ∷ [])
 
--- two gauges powered on sealed whose images agree, and frames none of which unseals either: those of a whole script, or of any script before the first
--- that does
-abbrev pub SilentFrames : Type 0
-SilentFrames =
-    (l : Layout) (image₁ image₂ : List ℕ) (fs : List Frame) → fits l (length image₁) ≡ true → fits l (length image₂) ≡ true → Agree l image₁ image₂
+-- two gauges powered on sealed whose images agree, and frames none of which unseals either: those of a whole script,
+-- or of any script before the first that does. The replies are equal, the images agree afterwards, and each is kept
+abbrev pub FrameNoninterference : Type 0
+FrameNoninterference =
+    (l : Layout) (image₁ image₂ : List ℕ) (fs : List Frame) → fits l (length image₁) ≡ true
+    → fits l (length image₂) ≡ true → Agree l image₁ image₂
     → staySealed l (poweredOn image₁) fs ≡ true → staySealed l (poweredOn image₂) fs ≡ true
     → (replies l (poweredOn image₁) fs ≡ replies l (poweredOn image₂) fs)
+    × Agree l (afterFrames l (poweredOn image₁) fs .image) (afterFrames l (poweredOn image₂) fs .image)
     × Kept l image₁ (afterFrames l (poweredOn image₁) fs .image)
     × Kept l image₂ (afterFrames l (poweredOn image₂) fs .image)
 
--- the texts of two images of one layout that agree, and a script that unseals neither gauge: the same output text
-abbrev pub SilentOutput : Type 0
-SilentOutput =
-    (x₁ x₂ y : List ℕ) (l : Layout) (bytes₁ bytes₂ : List ℕ) → image.judge x₁ ≡ image.accepted l bytes₁ → image.judge x₂ ≡ image.accepted l bytes₂
+-- the texts of two images of one layout that agree, and a script that unseals neither gauge: the same output text,
+-- and images that agree afterwards
+abbrev pub OutputNoninterference : Type 0
+OutputNoninterference =
+    (x₁ x₂ y : List ℕ) (l : Layout) (bytes₁ bytes₂ : List ℕ) → parseImage x₁ ≡ imageFile l bytes₁
+    → parseImage x₂ ≡ imageFile l bytes₂
     → Agree l bytes₁ bytes₂
-    → ((fs : List Frame) → judge y ≡ script fs → (staySealed l (poweredOn bytes₁) fs ≡ true) × (staySealed l (poweredOn bytes₂) fs ≡ true))
-    → replay x₁ y ≡ replay x₂ y
+    → ((fs : List Frame) → parseScript y ≡ script fs
+    → (staySealed l (poweredOn bytes₁) fs ≡ true) × (staySealed l (poweredOn bytes₂) fs ≡ true))
+    → (replay x₁ y ≡ replay x₂ y)
+    × ((fs : List Frame) → parseScript y ≡ script fs
+    → Agree l (afterFrames l (poweredOn bytes₁) fs .image) (afterFrames l (poweredOn bytes₂) fs .image))

@@ -1,5 +1,5 @@
 pub mod Frame
-pub mod Judge
+pub mod Parser
 pub mod Reply
 pub mod Replay
 pub mod Run

@@ -1,14 +1,12 @@
--- Replies. Document 01, "The replay program": "Reply: number and count taken, or 00 and the bytes read, or the number alone for a refused read."
--- Assumes nothing.
+-- Replies. Document 01, "The replay program": "Reply: number and count taken, or 00 and the bytes read, or the number
+-- alone for a refused read."
 use Prim.Native.Nat.{ℕ}
 use mathlib.Core.List.{List, [], _∷_, _++_}
 use lib.ListN.{take, replicate}
-use Rattle.hextext.specs.Hex.{hex}
+use Rattle.hextext.specs.Hex.{hexLine}
 use Rattle.flashrules.specs.declared.layout.Layout.{Layout}
-use Rattle.imagerules.specs.Text.{lineFeed}
 use Rattle.gaugerules.specs.Register.{registers}
-use Rattle.gaugerules.specs.Read.{Seen}
-use Rattle.gaugerules.specs.Script.{Device, Call, toWrite, toRead, reply, next}
+use Rattle.gaugerules.specs.Script.{Device, Call, toWrite, toRead, Reply, ofWrite, ofRead, reply, afterCall}
 use Rattle.scriptrules.specs.Frame.{Frame, writeFrame, readFrame}
 
 -- a frame as a call on the gauge; a read is lent a buffer for all registers, so 14 never comes
@@ -17,20 +15,16 @@ callOf (writeFrame r bytes) = toWrite r bytes
 callOf (readFrame r n) = toRead r n (replicate registers 0)
 
 -- a refused read accepts 0, so its number is alone
-abbrev pub replyBytes : Frame → Seen → List ℕ
-replyBytes (writeFrame r bytes) s = s .error ∷ s .accepted ∷ []
-replyBytes (readFrame r n) s = s .error ∷ take (s .accepted) (s .buffer)
-
--- the line of a reply's bytes
-abbrev pub replyLine : List ℕ → List ℕ
-replyLine bs = hex bs ++ (lineFeed ∷ [])
+abbrev pub replyBytes : Reply → List ℕ
+replyBytes (ofWrite e n) = e ∷ n ∷ []
+replyBytes (ofRead s) = s .answer .error ∷ take (s .answer .accepted) (s .lent)
 
 -- "prints one line an answer"
 unfoldable pub replyText : Layout → Device → Frame → List ℕ
-replyText l d f = replyLine (replyBytes f (reply l d (callOf f)))
+replyText l d f = hexLine (replyBytes (reply l d (callOf f)))
 
 unfoldable pub afterFrame : Layout → Device → Frame → Device
-afterFrame l d f = next l d (callOf f)
+afterFrame l d f = afterCall l d (callOf f)
 
 -- no reply is longer: 00, 128 bytes and a line feed
 abbrev pub maxReply : ℕ

@@ -2,4 +2,4 @@
 // and claims (specs/), proved of the rules alone (proofs/). Crates `scriptparser` and `scriptrunner` are the code. Document 01, "The replay
 // program".
 pub mod answer;
-pub mod judge;
+pub mod parser;

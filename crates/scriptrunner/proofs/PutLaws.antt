@@ -1,5 +1,4 @@
 -- Reply lines as the code puts them into a buffer, and the replies that they are.
--- Assumes nothing.
 use Prim.Native.Nat.{ℕ, _+_, _-_, _*_, _/_, _%_, _≤_}
 use mathlib.Core.Path.{_≡_, refl, _∙_}
 use mathlib.Core.List.{List, [], _∷_, _++_}
@@ -7,29 +6,27 @@ use native.Mathlib.Nat.{sub-zero}
 use native.Mathlib.Omega.{arith}
 use lib.ListN.{length, take, drop, replicate, length-take}
 use lib.Seq.{sets}
-use Rattle.hextext.specs.Hex.{digit, hex}
-use Rattle.hextext.proofs.HexLaws.{hex-length}
+use Rattle.hextext.specs.Hex.{digit, hex, hexLine}
+use Rattle.hextext.proofs.Laws.{line-length}
 use Rattle.hextext.proofs.StoreLaws.{sets-on}
+use Rattle.flashrules.specs.Outcome.{outcome}
 use Rattle.flashrules.specs.declared.layout.Layout.{Layout}
-use Rattle.imagerules.specs.Text.{lineFeed}
 use Rattle.gaugerules.specs.Register.{registers}
-use Rattle.gaugerules.specs.Write.{done, write}
-use Rattle.gaugerules.specs.Read.{seen, read}
-use Rattle.gaugerules.specs.Script.{device, reply, next}
+use Rattle.gaugerules.specs.Write.{write}
+use Rattle.gaugerules.specs.Read.{read}
+use Rattle.gaugerules.specs.Script.{device, reply, afterCall}
 use Rattle.gaugerules.specs.declared.state.Gauge.{Gauge}
 use Rattle.gaugerules.specs.declared.answer.Written.{Written}
 use Rattle.gaugerules.specs.declared.answer.Reading.{Reading}
 use Rattle.scriptrules.specs.Frame.{writeFrame, readFrame}
-use Rattle.scriptrules.specs.Reply.{replyLine, replyText, afterFrame}
-use Rattle.scriptrules.specs.Run.{left, answered, answerFrame}
-use Rattle.scriptrules.proofs.ReplyLaws.{line-length, read-accepts}
+use Rattle.scriptrules.specs.Reply.{replyText, afterFrame}
+use Rattle.scriptrules.specs.Run.{lend, answered, runFrame}
+use Rattle.scriptrules.proofs.ReplyLaws.{read-accepts}
 
--- a line, as three stores
-pub line-put : (b : ℕ) (bs r r₁ r₂ r₃ : List ℕ) (at : ℕ) → r₁ ≡ sets r at (hex (b ∷ [])) → r₂ ≡ sets r₁ (at + 2) (hex bs)
-    → r₃ ≡ sets r₂ (at + 2 + 2 * length bs) (lineFeed ∷ []) → r₃ ≡ sets r at (replyLine (b ∷ bs))
-line-put b bs r r₁ r₂ r₃ at p q e =
-    e ∙ rw (← hex-length bs) (sets-on r₁ r₂ (at + 2) (at + 2 + length (hex bs)) (hex bs) (lineFeed ∷ []) q refl)
-    ∙ sets-on r r₁ at (at + 2) (hex (b ∷ [])) (hex bs ++ (lineFeed ∷ [])) p refl
+-- a line behind its first byte
+pub line-put : (b : ℕ) (bs r r₁ r₂ : List ℕ) (at : ℕ) → r₁ ≡ sets r at (hex (b ∷ [])) → r₂ ≡ sets r₁ (at + 2) (hexLine bs)
+    → r₂ ≡ sets r at (hexLine (b ∷ bs))
+line-put b bs r r₁ r₂ at p q = q ∙ sets-on r r₁ at (at + 2) (hex (b ∷ [])) (hexLine bs) p refl
 
 -- two digits tell a number's low eight bits
 module _ (n : ℕ) where
@@ -42,21 +39,21 @@ module _ (n : ℕ) where
   low-low = let h : n % 256 % 16 ≡ n % 16 = omega arith in rw h
 
 module _ (l : Layout) (image : List ℕ) (g : Gauge) (r : ℕ) where
-  pub write-answered : (bytes buffer image′ buffer′ : List ℕ) (w : Written) (n at : ℕ) → done w image′ ≡ write l image g r bytes
-      → n ≡ w .accepted % 256 → buffer′ ≡ sets buffer at (replyLine (w .error ∷ n ∷ []))
-      → left (answered 0 (w .gauge) 5) image′ buffer′ ≡ answerFrame l (device g image) (writeFrame r bytes) buffer at
-  unfolding answerFrame replyText afterFrame reply next done seen
+  pub write-answered : (bytes buffer image′ buffer′ : List ℕ) (w : Written) (n at : ℕ) → outcome w image′ ≡ write l image g r bytes
+      → n ≡ w .accepted % 256 → buffer′ ≡ sets buffer at (hexLine (w .error ∷ n ∷ []))
+      → outcome (answered 0 (w .gauge) 5) (lend image′ buffer′) ≡ runFrame l (device g image) (writeFrame r bytes) buffer at
+  unfolding runFrame replyText afterFrame reply afterCall outcome
   write-answered bytes buffer image′ buffer′ w n at p q e = rw (← p, e, q, low-high (w .accepted), low-low (w .accepted))
 
-  pub read-few : (v v′ : List ℕ) (n : ℕ) (a : Reading) → seen a v′ ≡ read l image g r n v → a .accepted ≤ length v
-  unfolding seen
+  pub read-few : (v v′ : List ℕ) (n : ℕ) (a : Reading) → outcome a v′ ≡ read l image g r n v → a .accepted ≤ length v
+  unfolding outcome
   read-few v v′ n a p = rw (← p) at (read-accepts l image g r n v)
 
-  pub read-answered : (buffer buffer′ v : List ℕ) (a : Reading) (n at : ℕ) → seen a v ≡ read l image g r n (replicate registers 0)
-      → a .accepted ≤ registers → length v ≡ registers → buffer′ ≡ sets buffer at (replyLine (a .error ∷ take (a .accepted - 0) (drop 0 v)))
-      → left (answered 0 g (3 + 2 * a .accepted)) image buffer′ ≡ answerFrame l (device g image) (readFrame r n) buffer at
-  unfolding answerFrame replyText afterFrame reply next seen
+  pub read-answered : (buffer buffer′ v : List ℕ) (a : Reading) (n at : ℕ) → outcome a v ≡ read l image g r n (replicate registers 0)
+      → a .accepted ≤ registers → length v ≡ registers → buffer′ ≡ sets buffer at (hexLine (a .error ∷ take (a .accepted - 0) (drop 0 v)))
+      → outcome (answered 0 g (3 + 2 * a .accepted)) (lend image buffer′) ≡ runFrame l (device g image) (readFrame r n) buffer at
+  unfolding runFrame replyText afterFrame reply afterCall outcome
   read-answered buffer buffer′ v a n at p h k e =
-      let m : length (replyLine (a .error ∷ take (a .accepted) v)) ≡ 3 + 2 * a .accepted
+      let m : length (hexLine (a .error ∷ take (a .accepted) v)) ≡ 3 + 2 * a .accepted
       = line-length (a .error ∷ take (a .accepted) v) ∙ rw length-take (omega arith) in
       rw (← p, e, sub-zero, ← m)

@@ -1,50 +1,47 @@
 // Reply lines in a lent buffer.
+use flashrules::error::MALFORMED;
 use flashrules::layout::Layout;
-use flashrules::lookup::INVALID_LAYOUT;
 use gauge::read::read;
 use gauge::write::write;
 use gaugerules::answer::Reading;
 use gaugerules::register::REGISTERS;
 use gaugerules::state::Gauge;
-use hextext::encode;
 use hextext::encode_byte;
-use hextext::store;
-use imagerules::text::LINE_FEED;
+use hextext::encode_line;
 use scriptrules::answer::Answered;
 ghost use mathlib.Core.Path.{_≡_};
 ghost use mathlib.Core.List.{[], _∷_};
 ghost use Prim.Native.Nat.{_%_, _≤_};
 ghost use lib.ListN.{length};
 ghost use lib.Seq.{sets};
-ghost use Rattle.gaugerules.specs.Register.{registers};
-ghost use Rattle.gaugerules.specs.Read.{seen, read};
+ghost use Rattle.hextext.specs.Hex.{hexLine};
+ghost use Rattle.flashrules.specs.Outcome.{outcome};
+ghost use Rattle.gaugerules.specs.Read.{read};
 ghost use Rattle.gaugerules.specs.Script.{device};
 ghost use Rattle.scriptrules.specs.Frame.{writeFrame, readFrame};
-ghost use Rattle.scriptrules.specs.Reply.{replyLine, maxReply};
+ghost use Rattle.scriptrules.specs.Reply.{maxReply};
 ghost use Rattle.scriptrules.specs.Replay.{refusal};
-ghost use Rattle.scriptrules.specs.Run.{left, answerFrame};
+ghost use Rattle.scriptrules.specs.Run.{lend, runFrame};
 
 // The longest reply: 00, 128 bytes and a line feed.
 pub(crate) const MAX_REPLY: usize = 2 * (1 + REGISTERS) + 1;
 
 // A byte and bytes as a line, from an index on.
 fn put_line(first: u8, rest: &[u8], buffer: &mut [u8], at: usize)
-    requires { ⌜ length (now rest) ≤ registers ⌝ }
-    ensures { λ _. ⌜ now (buffer .exit) ≡ sets (now (buffer .entry)) at (replyLine (first ∷ now (rest .entry))) ⌝ }
+    ensures { λ _. ⌜ now (buffer .exit) ≡ sets (now (buffer .entry)) at (hexLine (first ∷ now (rest .entry))) ⌝ }
 {
     if buffer.len() <= at {
         return;
     }
     encode_byte(first, buffer, at);
-    encode(rest, buffer, at + 2);
-    store(LINE_FEED, buffer, at + 2 + 2 * rest.len());
+    encode_line(rest, buffer, at + 2);
 }
 
 // The single line for a file that breaks its rules, at the front of the buffer.
 pub fn put_refusal(buffer: &mut [u8])
     ensures { λ _. ⌜ now (buffer .exit) ≡ sets (now (buffer .entry)) 0 refusal ⌝ }
 {
-    put_line(INVALID_LAYOUT, &[], buffer, 0);
+    encode_line(&[MALFORMED], buffer, 0);
 }
 
 fn low_byte(n: usize) -> u8
@@ -54,7 +51,7 @@ fn low_byte(n: usize) -> u8
 }
 
 // A write frame is run, and replied to.
-pub(crate) fn answer_write(
+pub(crate) fn run_write(
     layout: Layout,
     image: &mut [u8],
     gauge: Gauge,
@@ -63,12 +60,12 @@ pub(crate) fn answer_write(
     buffer: &mut [u8],
     at: usize,
 ) -> Answered
-    ensures { λ r. ⌜ left r (now (image .exit)) (now (buffer .exit)) ≡ answerFrame layout (device gauge (now (image .entry))) (writeFrame register (now (bytes .entry))) (now (buffer .entry)) at ⌝ }
+    ensures { λ r. ⌜ outcome r (lend (now (image .exit)) (now (buffer .exit))) ≡ runFrame layout (device gauge (now (image .entry))) (writeFrame register (now (bytes .entry))) (now (buffer .entry)) at ⌝ }
     ensures { λ r. ⌜ r .length ≤ maxReply ⌝ }
 {
     let written = write(layout, image, gauge, register, bytes);
     let accepted = low_byte(written.accepted);
-    put_line(written.error, &[accepted], buffer, at);
+    encode_line(&[written.error, accepted], buffer, at);
     let after = written.gauge;
     Answered {
         error: 0,
@@ -86,14 +83,14 @@ fn read_registers(
     count: u8,
     values: &mut [u8],
 ) -> Reading
-    ensures { λ r. ⌜ seen r (now (values .exit)) ≡ read layout (now (image .entry)) gauge register count (now (values .entry)) ⌝ }
+    ensures { λ r. ⌜ outcome r (now (values .exit)) ≡ read layout (now (image .entry)) gauge register count (now (values .entry)) ⌝ }
     ensures { λ r. ⌜ r .accepted ≤ length (now (values .entry)) ⌝ }
 {
     read(layout, image, gauge, register, count as usize, values)
 }
 
 // A read frame is run, and replied to.
-pub(crate) fn answer_read(
+pub(crate) fn run_read(
     layout: Layout,
     image: &[u8],
     gauge: Gauge,
@@ -102,7 +99,7 @@ pub(crate) fn answer_read(
     buffer: &mut [u8],
     at: usize,
 ) -> Answered
-    ensures { λ r. ⌜ left r (now (image .entry)) (now (buffer .exit)) ≡ answerFrame layout (device gauge (now (image .entry))) (readFrame register count) (now (buffer .entry)) at ⌝ }
+    ensures { λ r. ⌜ outcome r (lend (now (image .entry)) (now (buffer .exit))) ≡ runFrame layout (device gauge (now (image .entry))) (readFrame register count) (now (buffer .entry)) at ⌝ }
     ensures { λ r. ⌜ r .length ≤ maxReply ⌝ }
 {
     let mut values = [0u8; REGISTERS];

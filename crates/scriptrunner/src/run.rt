@@ -1,18 +1,18 @@
 // Frames are run on a gauge and its image, and their replies put into a lent buffer: a line at a time, or all whole lines of a text.
 use crate::reply::MAX_REPLY;
-use crate::reply::answer_read;
-use crate::reply::answer_write;
+use crate::reply::run_read;
+use crate::reply::run_write;
+use flashrules::error::MALFORMED;
+use flashrules::error::SHORT_BUFFER;
 use flashrules::layout::Layout;
-use flashrules::lookup::INVALID_LAYOUT;
-use flashrules::lookup::SHORT_BUFFER;
 use gaugerules::state::Gauge;
+use hextext::LINE_FEED;
 use hextext::decode;
-use imagerules::text::LINE_FEED;
 use scriptparser::is_frame;
 use scriptrules::answer::Answered;
 use scriptrules::answer::Progress;
-use scriptrules::judge::MAX_FRAME;
-use scriptrules::judge::READ;
+use scriptrules::parser::MAX_FRAME;
+use scriptrules::parser::READ;
 ghost use mathlib.Core.Path.{_≡_};
 ghost use mathlib.Core.Bool.{true};
 ghost use Prim.Native.Nat.{_-_, _≤_};
@@ -20,9 +20,10 @@ ghost use lib.ListN.{length};
 ghost use Rattle.hextext.specs.Hex.{unhex};
 ghost use Rattle.gaugerules.specs.Script.{device};
 ghost use Rattle.scriptrules.specs.Frame.{maxFrame, frameOf};
-ghost use Rattle.scriptrules.specs.Judge.{isFrame};
+ghost use Rattle.scriptrules.specs.Parser.{isFrame};
 ghost use Rattle.scriptrules.specs.Reply.{maxReply};
-ghost use Rattle.scriptrules.specs.Run.{left, lineError, answered, answerFrame, answer, run};
+ghost use Rattle.flashrules.specs.Outcome.{outcome};
+ghost use Rattle.scriptrules.specs.Run.{lend, lineError, answered, runFrame, runLine, run};
 
 // Why a line is not run, 0 where it is; the buffer has so many bytes.
 fn line_error(line: &[u8], buffer_len: usize, at: usize) -> u8
@@ -37,7 +38,7 @@ fn line_error(line: &[u8], buffer_len: usize, at: usize) -> u8
         }
         return 0;
     }
-    INVALID_LAYOUT
+    MALFORMED
 }
 
 // How many bytes a frame's line stands for.
@@ -49,7 +50,7 @@ fn frame_length(line: &[u8]) -> usize
 }
 
 // A frame is run, and replied to.
-fn answer_frame(
+fn run_frame(
     layout: Layout,
     image: &mut [u8],
     gauge: Gauge,
@@ -58,20 +59,20 @@ fn answer_frame(
     at: usize,
 ) -> Answered
     requires { ⌜ isFrame (now line) ≡ true ⌝ }
-    ensures { λ r. ⌜ left r (now (image .exit)) (now (buffer .exit)) ≡ answerFrame layout (device gauge (now (image .entry))) (frameOf (now (line .entry))) (now (buffer .entry)) at ⌝ }
+    ensures { λ r. ⌜ outcome r (lend (now (image .exit)) (now (buffer .exit))) ≡ runFrame layout (device gauge (now (image .entry))) (frameOf (now (line .entry))) (now (buffer .entry)) at ⌝ }
     ensures { λ r. ⌜ r .length ≤ maxReply ⌝ }
 {
     let mut frame = [0u8; MAX_FRAME];
     decode(line, &mut frame, 0);
     if frame[0] == READ {
-        return answer_read(layout, &image[..], gauge, frame[1], frame[2], buffer, at);
+        return run_read(layout, &image[..], gauge, frame[1], frame[2], buffer, at);
     }
     let end = frame_length(line);
-    answer_write(layout, image, gauge, frame[1], &frame[2..end], buffer, at)
+    run_write(layout, image, gauge, frame[1], &frame[2..end], buffer, at)
 }
 
 // One line, without its line feed, is run; its reply is put into the buffer from an index on. A refused line alters nothing.
-pub fn answer(
+pub fn run_line(
     layout: Layout,
     image: &mut [u8],
     gauge: Gauge,
@@ -79,12 +80,12 @@ pub fn answer(
     buffer: &mut [u8],
     at: usize,
 ) -> Answered
-    ensures { λ r. ⌜ left r (now (image .exit)) (now (buffer .exit)) ≡ answer layout (now (image .entry)) gauge (now (line .entry)) (now (buffer .entry)) at ⌝ }
+    ensures { λ r. ⌜ outcome r (lend (now (image .exit)) (now (buffer .exit))) ≡ runLine layout (now (image .entry)) gauge (now (line .entry)) (now (buffer .entry)) at ⌝ }
     ensures { λ r. ⌜ r .length ≤ length (now (buffer .entry)) - at ⌝ }
 {
     let error = line_error(line, buffer.len(), at);
     if error == 0 {
-        return answer_frame(layout, image, gauge, line, buffer, at);
+        return run_frame(layout, image, gauge, line, buffer, at);
     }
     Answered {
         error,
@@ -94,7 +95,7 @@ pub fn answer(
 }
 
 // One line more is run, behind replies that take up so much of the buffer; its length here is that of all of them.
-fn answer_behind(
+fn run_behind(
     layout: Layout,
     image: &mut [u8],
     gauge: Gauge,
@@ -103,10 +104,10 @@ fn answer_behind(
     used: usize,
 ) -> Answered
     requires { ⌜ used ≤ length (now buffer) ⌝ }
-    ensures { λ r. ⌜ left (answered (r .error) (r .gauge) (r .length - used)) (now (image .exit)) (now (buffer .exit)) ≡ answer layout (now (image .entry)) gauge (now (line .entry)) (now (buffer .entry)) used ⌝ }
+    ensures { λ r. ⌜ outcome (answered (r .error) (r .gauge) (r .length - used)) (lend (now (image .exit)) (now (buffer .exit))) ≡ runLine layout (now (image .entry)) gauge (now (line .entry)) (now (buffer .entry)) used ⌝ }
     ensures { λ r. ⌜ (used ≤ r .length) × (r .length ≤ length (now (buffer .entry))) ⌝ }
 {
-    let answered = answer(layout, image, gauge, line, buffer, used);
+    let answered = run_line(layout, image, gauge, line, buffer, used);
     let after = answered.gauge;
     Answered {
         error: answered.error,
@@ -124,7 +125,7 @@ pub fn run(
     text: &[u8],
     buffer: &mut [u8],
 ) -> Progress
-    ensures { λ r. ⌜ left r (now (image .exit)) (now (buffer .exit)) ≡ run layout (now (image .entry)) gauge (now (text .entry)) (now (buffer .entry)) ⌝ }
+    ensures { λ r. ⌜ outcome r (lend (now (image .exit)) (now (buffer .exit))) ≡ run layout (now (image .entry)) gauge (now (text .entry)) (now (buffer .entry)) ⌝ }
     ensures { λ r. ⌜ (r .next ≤ length (now (text .entry))) × (r .length ≤ length (now (buffer .entry))) ⌝ }
 {
     let mut after = gauge;
@@ -141,7 +142,7 @@ pub fn run(
             };
         }
         let next = end + 1;
-        let answered = answer_behind(layout, image, after, &text[from..end], buffer, out);
+        let answered = run_behind(layout, image, after, &text[from..end], buffer, out);
         let error = answered.error;
         after = answered.gauge;
         if error == 0 {

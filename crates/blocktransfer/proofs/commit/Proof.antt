@@ -1,7 +1,6 @@
--- `blocktransfer::commit` meets its contract. By the error.
--- Assumes nothing.
+-- `blocktransfer::commit` meets its contract. By the error, and by what is loaded.
 use borrow.Author.Needs.{needs}
-use Rattle.blocktransfer.proofs.TransferLaws.{commits, commits-not}
+use Rattle.blocktransfer.proofs.TransferLaws.{commits, commits-none, commits-not}
 use Rattle.blocktransfer.proofs.commit.Statement.{statement}
 use Rattle.blocktransfer.proofs.commit.Tie as tie
 
@@ -11,9 +10,14 @@ commit-spec =
     (tie.spec
     (λ c κs. search needs)
     (λ c κs. search needs)
+    (λ c. search needs)
     (λ c. search commits-not)
     (λ c κs. search needs)
+    (λ c. search needs)
+    (λ c. search needs)
     (λ c κs. search needs)
+    (λ c. search needs)
+    (λ c. search commits-none)
     (λ c κs. search needs)
     (λ c κs. search needs)
     (λ c. search needs)

@@ -1,19 +1,17 @@
--- `blocktransfer::commit_error` meets its contract. Test by test, as the definition.
--- Assumes nothing.
+-- `blocktransfer::commit_error` meets its contract. The tests of an edit, and then the checksum.
 use borrow.Author.Needs.{needs}
 use Rattle.flashrules.proofs.Picks.{picks, calls}
-use Rattle.gaugerules.specs.Transfer.{commitError}
-use Rattle.gaugerules.proofs.Picks.{steps}
+use Rattle.gaugerules.proofs.Picks.{byteRules}
+use Rattle.blocktransfer.proofs.TransferLaws.{edit-first, sum-behind}
 use Rattle.blocktransfer.proofs.commit_error.Statement.{statement}
 use Rattle.blocktransfer.proofs.commit_error.Tie as tie
 
 pub commit-error-spec : {M : Type 1} → statement M
-unfolding commitError
 commit-error-spec =
     tie.close
     (tie.spec
     (λ c κs. search needs)
     (λ c κs. search needs)
-    (λ c. search (picks, calls, steps) depth 12)
-    (λ c. search (picks, calls, steps) depth 12)
-    (λ c. search (picks, calls, steps) depth 12))
+    (λ c. search (needs, picks, calls, byteRules, sum-behind) depth 14)
+    (λ c. search (needs, picks, calls, byteRules, sum-behind) depth 14)
+    (λ c. search edit-first))

@@ -1,9 +1,8 @@
 -- `blocktransfer::edit` meets its contract. By the error.
--- Assumes nothing.
 use borrow.Author.Needs.{needs}
 use Rattle.flashrules.proofs.Picks.{picks, calls}
 use Rattle.gaugerules.specs.Transfer.{edit}
-use Rattle.gaugerules.proofs.Picks.{steps}
+use Rattle.gaugerules.proofs.Picks.{byteRules}
 use Rattle.blocktransfer.proofs.edit.Statement.{statement}
 use Rattle.blocktransfer.proofs.edit.Tie as tie
 
@@ -15,6 +14,6 @@ edit-spec =
     (λ c κs. search needs)
     (λ c. search needs)
     (λ c κs. search needs)
-    (λ c. search (picks, calls, steps) depth 12)
+    (λ c. search (picks, calls, byteRules) depth 12)
     (λ c κs. search needs)
-    (λ c. search (picks, calls, steps) depth 12))
+    (λ c. search (picks, calls, byteRules) depth 12))

@@ -1,9 +1,8 @@
 -- `blocktransfer::edit_error` meets its contract. Test by test, as the definition.
--- Assumes nothing.
 use borrow.Author.Needs.{needs}
 use Rattle.flashrules.proofs.Picks.{picks, calls}
 use Rattle.gaugerules.specs.Transfer.{editError}
-use Rattle.gaugerules.proofs.Picks.{steps}
+use Rattle.gaugerules.proofs.Picks.{byteRules}
 use Rattle.blocktransfer.proofs.edit_error.Statement.{statement}
 use Rattle.blocktransfer.proofs.edit_error.Tie as tie
 
@@ -12,7 +11,10 @@ unfolding editError
 edit-error-spec =
     tie.close
     (tie.spec
-    (λ c. search (picks, calls, steps) depth 12)
     (λ c κs. search needs)
-    (λ c. search (picks, calls, steps) depth 12)
-    (λ c. search (picks, calls, steps) depth 12))
+    (λ c. search needs)
+    (λ c. search needs)
+    (λ c. search (picks, calls, byteRules) depth 12)
+    (λ c κs. search needs)
+    (λ c. search (picks, calls, byteRules) depth 12)
+    (λ c. search (picks, calls, byteRules) depth 12))

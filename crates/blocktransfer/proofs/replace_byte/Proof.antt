@@ -1,5 +1,4 @@
 -- `blocktransfer::replace_byte` meets its contract. A window has no place past its end.
--- Assumes nothing.
 use borrow.Author.Needs.{needs}
 use Rattle.blocktransfer.proofs.TransferLaws.{no-place}
 use Rattle.blocktransfer.proofs.replace_byte.Statement.{statement}

@@ -1,9 +1,8 @@
 -- `blocktransfer::select_block` meets its contract. Test by test, as the definition.
--- Assumes nothing.
 use borrow.Author.Needs.{needs}
 use Rattle.flashrules.proofs.Picks.{picks, calls}
 use Rattle.gaugerules.specs.Transfer.{selectBlock}
-use Rattle.gaugerules.proofs.Picks.{steps}
+use Rattle.gaugerules.proofs.Picks.{byteRules}
 use Rattle.blocktransfer.proofs.TransferLaws.{info-above}
 use Rattle.blocktransfer.proofs.select_block.Statement.{statement}
 use Rattle.blocktransfer.proofs.select_block.Tie as tie
@@ -15,10 +14,10 @@ select-block-spec =
     (tie.spec
     (λ c κs. search needs)
     (λ c κs. search needs)
-    (λ c. search (picks, calls, steps) depth 12)
+    (λ c. search (picks, calls, byteRules) depth 12)
     (λ c κs. search needs)
     (λ c. search info-above)
     (λ c κs. search needs)
-    (λ c. search (picks, calls, steps) depth 12)
+    (λ c. search (picks, calls, byteRules) depth 12)
     (λ c κs. search needs)
-    (λ c. search (picks, calls, steps) depth 12))
+    (λ c. search (picks, calls, byteRules) depth 12))

@@ -1,5 +1,4 @@
 -- `blocktransfer::selects_info` meets its contract. Test by test, as the definition.
--- Assumes nothing.
 use Rattle.flashrules.proofs.Picks.{picks}
 use Rattle.blocktransfer.proofs.selects_info.Statement.{statement}
 use Rattle.blocktransfer.proofs.selects_info.Tie as tie

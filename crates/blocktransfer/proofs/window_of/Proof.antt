@@ -1,5 +1,4 @@
 -- `blocktransfer::window_of` meets its contract. The invariant: the first k bytes are copied.
--- Assumes nothing.
 use borrow.Author.Needs.{needs}
 use mathlib.Core.Path.{_≡_}
 use Prim.Native.Nat.{_-_, _≤_}

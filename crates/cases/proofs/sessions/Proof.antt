@@ -1,5 +1,4 @@
 -- `cases::sessions` meets its contract. Each session is that of the table: computed.
--- Assumes nothing.
 use borrow.Author.Needs.{needs}
 use mathlib.Core.Path.{refl}
 use Rattle.hextext.specs.Hex.{digit}

@@ -1,5 +1,4 @@
 -- `checksum::low_sum` meets its contract. The invariant: the wrapped sum so far and what is left make the whole sum, modulo 256.
--- Assumes nothing.
 use mathlib.Core.Path.{_≡_}
 use Prim.Native.Nat.{_+_, _-_, _%_, _≤_, _<_}
 use lib.ListN.{length, drop}

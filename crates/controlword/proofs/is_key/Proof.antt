@@ -1,17 +1,17 @@
--- `controlword::is_key` meets its contract. Test by test, as the definition.
--- Assumes nothing.
+-- `controlword::is_key` meets its contract. Byte by byte, where there are four.
 use borrow.Author.Needs.{needs}
 use Rattle.flashrules.proofs.Picks.{picks, calls}
-use Rattle.gaugerules.specs.Word.{isKey}
-use Rattle.gaugerules.proofs.Picks.{steps}
+use Rattle.gaugerules.proofs.Picks.{byteRules}
+use Rattle.controlword.proofs.WordLaws.{key-short, key-is}
 use Rattle.controlword.proofs.is_key.Statement.{statement}
 use Rattle.controlword.proofs.is_key.Tie as tie
 
 pub is-key-spec : {M : Type 1} → statement M
-unfolding isKey
 is-key-spec =
     tie.close
     (tie.spec
+    (λ c. search needs)
+    (λ c. search (needs, key-short))
     (λ c κs. search needs)
     (λ c. search needs)
     (λ c κs. search needs)
@@ -19,7 +19,7 @@ is-key-spec =
     (λ c κs. search needs)
     (λ c. search needs)
     (λ c κs. search needs)
-    (λ c. search (picks, calls, steps) depth 12)
-    (λ c. search (picks, calls, steps) depth 12)
-    (λ c. search (picks, calls, steps) depth 12)
-    (λ c. search (picks, calls, steps) depth 12))
+    (λ c. search (needs, picks, calls, byteRules, key-is) depth 14)
+    (λ c. search (needs, picks, calls, byteRules, key-is) depth 14)
+    (λ c. search (needs, picks, calls, byteRules, key-is) depth 14)
+    (λ c. search (needs, picks, calls, byteRules, key-is) depth 14))

@@ -1,5 +1,4 @@
 -- `controlword::key_wanted` meets its contract. Test by test, as the definition.
--- Assumes nothing.
 use borrow.Author.Needs.{needs}
 use Rattle.flashrules.proofs.Picks.{picks}
 use Rattle.controlword.proofs.key_wanted.Statement.{statement}

@@ -1,9 +1,8 @@
 -- `controlword::key_word` meets its contract. Test by test, as the definition.
--- Assumes nothing.
 use borrow.Author.Needs.{needs}
 use Rattle.flashrules.proofs.Picks.{picks, calls}
 use Rattle.gaugerules.specs.Word.{keyWord}
-use Rattle.gaugerules.proofs.Picks.{steps}
+use Rattle.gaugerules.proofs.Picks.{byteRules}
 use Rattle.controlword.proofs.WordLaws.{key-opens, key-waits}
 use Rattle.controlword.proofs.key_word.Statement.{statement}
 use Rattle.controlword.proofs.key_word.Tie as tie
@@ -14,9 +13,9 @@ key-word-spec =
     tie.close
     (tie.spec
     (λ c κs. search needs)
-    (λ c. search (picks, calls, steps) depth 12)
+    (λ c. search (picks, calls, byteRules) depth 12)
     (λ c κs. search needs)
-    (λ c. search (picks, calls, steps) depth 12)
+    (λ c. search (picks, calls, byteRules) depth 12)
     (λ c κs. search needs)
     (λ c κs. search needs)
     (λ c κs. search needs)

@@ -1,5 +1,4 @@
 -- `controlword::mode_opened` meets its contract. Test by test, as the definition.
--- Assumes nothing.
 use Rattle.flashrules.proofs.Picks.{picks}
 use Rattle.controlword.proofs.mode_opened.Statement.{statement}
 use Rattle.controlword.proofs.mode_opened.Tie as tie

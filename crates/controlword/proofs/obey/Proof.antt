@@ -1,9 +1,8 @@
 -- `controlword::obey` meets its contract. Test by test, as the definition.
--- Assumes nothing.
 use borrow.Author.Needs.{needs}
 use Rattle.flashrules.proofs.Picks.{picks, calls}
 use Rattle.gaugerules.specs.Word.{obey}
-use Rattle.gaugerules.proofs.Picks.{steps}
+use Rattle.gaugerules.proofs.Picks.{byteRules}
 use Rattle.controlword.proofs.obey.Statement.{statement}
 use Rattle.controlword.proofs.obey.Tie as tie
 
@@ -13,10 +12,10 @@ obey-spec =
     tie.close
     (tie.spec
     (λ c κs. search needs)
-    (λ c. search (picks, calls, steps) depth 12)
+    (λ c. search (picks, calls, byteRules) depth 12)
     (λ c κs. search needs)
-    (λ c. search (picks, calls, steps) depth 12)
+    (λ c. search (picks, calls, byteRules) depth 12)
     (λ c κs. search needs)
-    (λ c. search (picks, calls, steps) depth 12)
+    (λ c. search (picks, calls, byteRules) depth 12)
     (λ c κs. search needs)
-    (λ c. search (picks, calls, steps) depth 12))
+    (λ c. search (picks, calls, byteRules) depth 12))

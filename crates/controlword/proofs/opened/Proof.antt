@@ -1,5 +1,4 @@
 -- `controlword::opened` meets its contract. The record, with what the call gave.
--- Assumes nothing.
 use borrow.Author.Needs.{needs}
 use Rattle.controlword.proofs.WordLaws.{opens-by}
 use Rattle.controlword.proofs.opened.Statement.{statement}

@@ -1,5 +1,4 @@
 -- `controlword::status` meets its contract. Test by test, as the definition.
--- Assumes nothing.
 use Rattle.flashrules.proofs.Picks.{picks}
 use Rattle.controlword.proofs.status.Statement.{statement}
 use Rattle.controlword.proofs.status.Tie as tie

@@ -1,5 +1,4 @@
 -- `controlword::with_status` meets its contract. The record, with what the call gave.
--- Assumes nothing.
 use borrow.Author.Needs.{needs}
 use Rattle.controlword.proofs.WordLaws.{status-by}
 use Rattle.controlword.proofs.with_status.Statement.{statement}

@@ -1,5 +1,4 @@
 -- `dataflash::block` meets its contract. By the cases of the lookup; a block that was found lies inside the image.
--- Assumes nothing.
 use borrow.Author.Needs.{needs}
 use Rattle.flashrules.specs.Image.{blockBytes, blockPlace}
 use Rattle.flashrules.proofs.Picks.{calls}

@@ -1,5 +1,4 @@
 -- `dataflash::copy_in` meets its contract. The invariant: the first k bytes are copied.
--- Assumes nothing.
 use mathlib.Core.Path.{_≡_}
 use Prim.Native.Nat.{_-_, _≤_}
 use lib.ListN.{length}

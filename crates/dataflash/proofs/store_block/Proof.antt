@@ -1,5 +1,4 @@
 -- `dataflash::store_block` meets its contract. By the cases of the lookup; a block that was found lies inside the image.
--- Assumes nothing.
 use borrow.Author.Needs.{needs}
 use Rattle.flashrules.specs.Image.{storeBlock}
 use Rattle.flashrules.proofs.Picks.{calls}

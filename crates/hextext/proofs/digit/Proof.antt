@@ -1,5 +1,4 @@
 -- `hextext::digit` meets its contract. By the test.
--- Assumes nothing.
 use borrow.Author.Needs.{needs}
 use Rattle.hextext.proofs.HexLaws.{digit-low, digit-high}
 use Rattle.hextext.proofs.digit.Statement.{statement}

@@ -1,5 +1,4 @@
 -- `hextext::encode_byte` meets its contract. Two stores.
--- Assumes nothing.
 use borrow.Author.Needs.{needs}
 use Rattle.hextext.proofs.HexLaws.{encoded}
 use Rattle.hextext.proofs.StoreLaws.{sets-out}

@@ -1,5 +1,4 @@
 -- `hextext::pair` meets its contract. Two numbers below 16.
--- Assumes nothing.
 use borrow.Author.Needs.{needs}
 use Rattle.hextext.proofs.pair.Statement.{statement}
 use Rattle.hextext.proofs.pair.Tie as tie

@@ -1,5 +1,4 @@
 -- `hextext::store` meets its contract. A store past the end changes nothing.
--- Assumes nothing.
 use borrow.Author.Needs.{needs}
 use Rattle.hextext.proofs.StoreLaws.{sets-out}
 use Rattle.hextext.proofs.store.Statement.{statement}

@@ -1,5 +1,4 @@
 -- `hextext::value` meets its contract. By the test.
--- Assumes nothing.
 use borrow.Author.Needs.{needs}
 use Rattle.hextext.proofs.HexLaws.{value-low, value-high}
 use Rattle.hextext.proofs.value.Statement.{statement}

@@ -1,5 +1,4 @@
 -- `imagereader::check` meets its contract. By the judgement.
--- Assumes nothing.
 use borrow.Author.Needs.{needs}
 use Rattle.imagereader.proofs.FileLaws.{check-good, check-bad}
 use Rattle.imagereader.proofs.check.Statement.{statement}

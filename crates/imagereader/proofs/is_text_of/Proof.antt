@@ -1,5 +1,4 @@
 -- `imagereader::is_text_of` meets its contract. The text that is written again is that of the image.
--- Assumes nothing.
 use borrow.Author.Needs.{needs}
 use Rattle.imagereader.proofs.FileLaws.{size-within, text-is, text-not}
 use Rattle.imagereader.proofs.is_text_of.Statement.{statement}

@@ -1,5 +1,4 @@
 -- `imagereader::not_read` meets its contract. Its layout is that of no classes.
--- Assumes nothing.
 use borrow.Author.Needs.{needs}
 use Rattle.imagereader.proofs.FileLaws.{not-read}
 use Rattle.imagereader.proofs.not_read.Statement.{statement}

@@ -1,5 +1,4 @@
 -- `imagereader::read` meets its contract. By the judgement.
--- Assumes nothing.
 use borrow.Author.Needs.{needs}
 use Rattle.imagereader.proofs.FileLaws.{read-bad, read-short, read-good}
 use Rattle.imagereader.proofs.read.Statement.{statement}

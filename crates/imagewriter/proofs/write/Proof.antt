@@ -1,5 +1,4 @@
 -- `imagewriter::write` meets its contract. By the tests.
--- Assumes nothing.
 use borrow.Author.Needs.{needs}
 use Rattle.imagewriter.proofs.CallLaws.{call-valid, call-fits, write-short, write-good, write-bad}
 use Rattle.imagewriter.proofs.write.Statement.{statement}

@@ -1,5 +1,4 @@
 -- `scriptparser::broken` meets its contract. From the start.
--- Assumes nothing.
 use borrow.Author.Needs.{needs}
 use Rattle.scriptparser.proofs.StateLaws.{start-broken}
 use Rattle.scriptparser.proofs.broken.Statement.{statement}

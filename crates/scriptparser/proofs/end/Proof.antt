@@ -1,5 +1,4 @@
 -- `scriptparser::end` meets its contract. By the state.
--- Assumes nothing.
 use Rattle.scriptparser.proofs.StateLaws.{end-of-lines, end-in-line, end-of-broken}
 use Rattle.scriptparser.proofs.end.Statement.{statement}
 use Rattle.scriptparser.proofs.end.Tie as tie

@@ -1,10 +1,9 @@
 -- `scriptparser::feed` meets its contract. The invariant: what is left to feed gives what the whole gives.
--- Assumes nothing.
 use borrow.Author.Needs.{needs}
 use mathlib.Core.Path.{_≡_}
 use Prim.Native.Nat.{_-_}
 use lib.ListN.{length, drop}
-use Rattle.scriptrules.specs.Judge.{feed}
+use Rattle.scriptrules.specs.Parser.{feed}
 use Rattle.scriptparser.proofs.StateLaws.{feed-more, feed-end}
 use Rattle.scriptparser.proofs.feed.Statement.{statement}
 use Rattle.scriptparser.proofs.feed.Tie as tie

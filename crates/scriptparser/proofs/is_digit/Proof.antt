@@ -1,7 +1,6 @@
 -- `scriptparser::is_digit` meets its contract. Test by test, as the definition.
--- Assumes nothing.
 use Rattle.flashrules.proofs.Picks.{picks}
-use Rattle.scriptrules.specs.Judge.{isDigit}
+use Rattle.scriptrules.specs.Parser.{isDigit}
 use Rattle.scriptparser.proofs.is_digit.Statement.{statement}
 use Rattle.scriptparser.proofs.is_digit.Tie as tie
 

@@ -1,5 +1,4 @@
 -- `scriptparser::is_frame` meets its contract. By the state after the line.
--- Assumes nothing.
 use borrow.Author.Needs.{needs}
 use Rattle.scriptparser.proofs.StateLaws.{line-counted, line-cut, line-broken}
 use Rattle.scriptparser.proofs.is_frame.Statement.{statement}

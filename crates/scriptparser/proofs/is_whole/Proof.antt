@@ -1,7 +1,6 @@
 -- `scriptparser::is_whole` meets its contract. Test by test, as the definition.
--- Assumes nothing.
 use Rattle.flashrules.proofs.Picks.{picks}
-use Rattle.scriptrules.specs.Judge.{isWhole}
+use Rattle.scriptrules.specs.Parser.{isWhole}
 use Rattle.scriptparser.proofs.is_whole.Statement.{statement}
 use Rattle.scriptparser.proofs.is_whole.Tie as tie
 

@@ -1,5 +1,4 @@
 -- `scriptparser::with_digit` meets its contract. By how many digits went before.
--- Assumes nothing.
 use borrow.Author.Needs.{needs}
 use Rattle.scriptparser.proofs.StateLaws.{digit-early, digit-late, digit-many}
 use Rattle.scriptparser.proofs.with_digit.Statement.{statement}

@@ -1,5 +1,4 @@
 -- `gauge::read::fill` meets its contract. The invariant: what is left to fill gives what the whole gives.
--- Assumes nothing.
 use borrow.Author.Needs.{needs}
 use mathlib.Core.Path.{_≡_}
 use mathlib.Core.List.{_++_}

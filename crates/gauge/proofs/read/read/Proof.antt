@@ -1,5 +1,4 @@
 -- `gauge::read::read` meets its contract. By the error.
--- Assumes nothing.
 use borrow.Author.Needs.{needs}
 use Rattle.gauge.proofs.ReadLaws.{reads-span, reads-room, reads, reads-not}
 use Rattle.gauge.proofs.read.read.Statement.{statement}

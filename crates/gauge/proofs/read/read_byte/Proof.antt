@@ -1,5 +1,4 @@
 -- `gauge::read::read_byte` meets its contract. By the register.
--- Assumes nothing.
 use borrow.Author.Needs.{needs}
 use Rattle.gauge.proofs.WriteLaws.{window-inside}
 use Rattle.gauge.proofs.ReadLaws.{reads-register}

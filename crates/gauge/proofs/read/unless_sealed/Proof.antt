@@ -1,5 +1,4 @@
 -- `gauge::read::unless_sealed` meets its contract. Test by test, as the definition.
--- Assumes nothing.
 use Rattle.flashrules.proofs.Picks.{picks}
 use Rattle.gauge.proofs.read.unless_sealed.Statement.{statement}
 use Rattle.gauge.proofs.read.unless_sealed.Tie as tie

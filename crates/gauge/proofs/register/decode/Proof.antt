@@ -1,5 +1,4 @@
 -- `gauge::register::decode` meets its contract. Test by test, as the definition.
--- Assumes nothing.
 use Rattle.flashrules.proofs.Picks.{picks}
 use Rattle.gaugerules.specs.Register.{registerOf}
 use Rattle.gauge.proofs.register.decode.Statement.{statement}

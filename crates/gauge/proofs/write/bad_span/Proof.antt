@@ -1,5 +1,4 @@
 -- `gauge::write::bad_span` meets its contract. Test by test, as the definition.
--- Assumes nothing.
 use borrow.Author.Needs.{needs}
 use Rattle.flashrules.proofs.Picks.{picks}
 use Rattle.gaugerules.specs.Write.{badSpan}

@@ -1,9 +1,8 @@
 -- `gauge::write::call_error` meets its contract. Test by test, as the definition.
--- Assumes nothing.
 use borrow.Author.Needs.{needs}
 use Rattle.flashrules.proofs.Picks.{picks, calls}
 use Rattle.gaugerules.specs.Write.{callError}
-use Rattle.gaugerules.proofs.Picks.{steps}
+use Rattle.gaugerules.proofs.Picks.{byteRules}
 use Rattle.gauge.proofs.write.call_error.Statement.{statement}
 use Rattle.gauge.proofs.write.call_error.Tie as tie
 
@@ -15,7 +14,7 @@ call-error-spec =
     (λ c κs. search needs)
     (λ c κs. search needs)
     (λ c κs. search needs)
-    (λ c. search (picks, calls, steps) depth 12)
-    (λ c. search (picks, calls, steps) depth 12)
-    (λ c. search (picks, calls, steps) depth 12)
-    (λ c. search (picks, calls, steps) depth 12))
+    (λ c. search (picks, calls, byteRules) depth 12)
+    (λ c. search (picks, calls, byteRules) depth 12)
+    (λ c. search (picks, calls, byteRules) depth 12)
+    (λ c. search (picks, calls, byteRules) depth 12))

@@ -1,5 +1,4 @@
 -- `gauge::write::write` meets its contract. By the error.
--- Assumes nothing.
 use borrow.Author.Needs.{needs}
 use Rattle.gauge.proofs.WriteLaws.{writes-span, writes, writes-not}
 use Rattle.gauge.proofs.write.write.Statement.{statement}

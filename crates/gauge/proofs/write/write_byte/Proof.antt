@@ -1,5 +1,4 @@
 -- `gauge::write::write_byte` meets its contract. By the register.
--- Assumes nothing.
 use borrow.Author.Needs.{needs}
 use Rattle.gauge.proofs.WriteLaws.{at-register}
 use Rattle.gauge.proofs.write.write_byte.Statement.{statement}

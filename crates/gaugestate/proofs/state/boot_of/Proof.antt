@@ -1,5 +1,4 @@
 -- `gaugestate::state::boot_of` meets its contract. Test by test, as the definition.
--- Assumes nothing.
 use Rattle.flashrules.proofs.Picks.{picks}
 use Rattle.gaugestate.proofs.state.boot_of.Statement.{statement}
 use Rattle.gaugestate.proofs.state.boot_of.Tie as tie

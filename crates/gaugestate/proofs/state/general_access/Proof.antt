@@ -1,5 +1,4 @@
 -- `gaugestate::state::general_access` meets its contract. Test by test, as the definition.
--- Assumes nothing.
 use Rattle.flashrules.proofs.Picks.{picks}
 use Rattle.gaugestate.proofs.state.general_access.Statement.{statement}
 use Rattle.gaugestate.proofs.state.general_access.Tie as tie

@@ -1,5 +1,4 @@
 -- `gaugestate::state::load` meets its contract. The record, with what the call gave.
--- Assumes nothing.
 use borrow.Author.Needs.{needs}
 use Rattle.gaugestate.proofs.StateLaws.{loads}
 use Rattle.gaugestate.proofs.state.load.Statement.{statement}

@@ -1,5 +1,4 @@
 -- `gaugestate::state::power_on` meets its contract. The record, with what the two calls gave.
--- Assumes nothing.
 use borrow.Author.Needs.{needs}
 use Rattle.gaugestate.proofs.StateLaws.{powers-on}
 use Rattle.gaugestate.proofs.state.power_on.Statement.{statement}

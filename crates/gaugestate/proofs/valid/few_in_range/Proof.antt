@@ -1,5 +1,4 @@
 -- `gaugestate::valid::few_in_range` meets its contract. Test by test, as the definition.
--- Assumes nothing.
 use Rattle.flashrules.proofs.Picks.{picks}
 use Rattle.gaugestate.proofs.valid.few_in_range.Statement.{statement}
 use Rattle.gaugestate.proofs.valid.few_in_range.Tie as tie

@@ -1,8 +1,7 @@
--- `gaugestate::valid::loaded_valid` meets its contract. Test by test, as the definition.
--- Assumes nothing.
+-- `gaugestate::valid::loaded_valid` meets its contract. By what is loaded, as the definition.
 use borrow.Author.Needs.{needs}
 use Rattle.flashrules.proofs.Picks.{picks, calls}
-use Rattle.gaugestate.proofs.StateLaws.{exists-by}
+use Rattle.gaugerules.proofs.Picks.{byteRules}
 use Rattle.gaugestate.proofs.valid.loaded_valid.Statement.{statement}
 use Rattle.gaugestate.proofs.valid.loaded_valid.Tie as tie
 
@@ -11,8 +10,9 @@ loaded-valid-spec =
     tie.close
     (tie.spec
     (λ c κs. search needs)
-    (λ c. search (picks, calls) depth 12)
+    (λ c. search needs)
+    (λ c. search needs)
     (λ c κs. search needs)
+    (λ c. search (picks, calls, byteRules) depth 12)
     (λ c κs. search needs)
-    (λ c κs. search needs)
-    (λ c. search (picks, calls, exists-by) depth 12))
+    (λ c. search (picks, calls, byteRules) depth 12))

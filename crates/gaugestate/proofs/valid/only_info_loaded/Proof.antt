@@ -1,8 +1,7 @@
--- `gaugestate::valid::only_info_loaded` meets its contract. Test by test, as the definition.
--- Assumes nothing.
+-- `gaugestate::valid::only_info_loaded` meets its contract. By what is loaded, as the definition.
 use borrow.Author.Needs.{needs}
 use Rattle.flashrules.proofs.Picks.{picks, calls}
-use Rattle.gaugerules.proofs.Picks.{steps}
+use Rattle.gaugerules.proofs.Picks.{byteRules}
 use Rattle.gaugestate.proofs.valid.only_info_loaded.Statement.{statement}
 use Rattle.gaugestate.proofs.valid.only_info_loaded.Tie as tie
 
@@ -10,8 +9,9 @@ pub only-info-loaded-spec : {M : Type 1} → statement M
 only-info-loaded-spec =
     tie.close
     (tie.spec
-    (λ c. search (picks, calls, steps) depth 12)
     (λ c κs. search needs)
-    (λ c κs. search needs)
-    (λ c. search (picks, calls, steps) depth 12)
-    (λ c. search (picks, calls, steps) depth 12))
+    (λ c. search needs)
+    (λ c. search needs)
+    (λ c. search (picks, calls, byteRules) depth 12)
+    (λ c. search (picks, calls, byteRules) depth 12)
+    (λ c. search (picks, calls, byteRules) depth 12))

@@ -1,5 +1,4 @@
 -- `gaugestate::valid::pending_valid` meets its contract. Test by test, as the definition.
--- Assumes nothing.
 use Rattle.flashrules.proofs.Picks.{picks}
 use Rattle.gaugestate.proofs.valid.pending_valid.Statement.{statement}
 use Rattle.gaugestate.proofs.valid.pending_valid.Tie as tie

@@ -1,9 +1,8 @@
 -- `gaugestate::valid::valid` meets its contract. Test by test, as the definition.
--- Assumes nothing.
 use borrow.Author.Needs.{needs}
 use Rattle.flashrules.proofs.Picks.{picks, calls}
 use Rattle.gaugerules.specs.Valid.{valid}
-use Rattle.gaugerules.proofs.Picks.{steps}
+use Rattle.gaugerules.proofs.Picks.{byteRules}
 use Rattle.gaugestate.proofs.valid.valid.Statement.{statement}
 use Rattle.gaugestate.proofs.valid.valid.Tie as tie
 
@@ -16,7 +15,7 @@ valid-spec =
     (λ c κs. search needs)
     (λ c κs. search needs)
     (λ c κs. search needs)
-    (λ c. search (picks, calls, steps) depth 12)
-    (λ c. search (picks, calls, steps) depth 12)
-    (λ c. search (picks, calls, steps) depth 12)
-    (λ c. search (picks, calls, steps) depth 12))
+    (λ c. search (picks, calls, byteRules) depth 12)
+    (λ c. search (picks, calls, byteRules) depth 12)
+    (λ c. search (picks, calls, byteRules) depth 12)
+    (λ c. search (picks, calls, byteRules) depth 12))

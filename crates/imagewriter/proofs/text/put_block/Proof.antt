@@ -1,5 +1,4 @@
 -- `imagewriter::text::put_block` meets its contract. The part that is lent is the block.
--- Assumes nothing.
 use borrow.Author.Needs.{needs}
 use Rattle.imagewriter.proofs.WriteLaws.{block-put}
 use Rattle.imagewriter.proofs.text.put_block.Statement.{statement}

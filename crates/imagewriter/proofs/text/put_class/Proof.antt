@@ -1,5 +1,4 @@
 -- `imagewriter::text::put_class` meets its contract. The invariant: what is left to write gives what the whole gives.
--- Assumes nothing.
 use borrow.Author.Needs.{needs}
 use Prim.Native.Nat.{_-_}
 use lib.ListN.{length}

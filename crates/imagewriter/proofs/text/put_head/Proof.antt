@@ -1,5 +1,4 @@
 -- `imagewriter::text::put_head` meets its contract. One store behind the other.
--- Assumes nothing.
 use borrow.Author.Needs.{needs}
 use Rattle.imagewriter.proofs.WriteLaws.{head-put}
 use Rattle.imagewriter.proofs.text.put_head.Statement.{statement}

@@ -1,5 +1,4 @@
 -- `imagewriter::text::put_line` meets its contract. Its parts, one behind the other.
--- Assumes nothing.
 use borrow.Author.Needs.{needs}
 use Rattle.imagewriter.proofs.WriteLaws.{line-put}
 use Rattle.imagewriter.proofs.text.put_line.Statement.{statement}

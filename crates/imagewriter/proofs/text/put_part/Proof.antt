@@ -1,5 +1,4 @@
 -- `imagewriter::text::put_part` meets its contract. The part that is lent is the class.
--- Assumes nothing.
 use borrow.Author.Needs.{needs}
 use Rattle.imagewriter.proofs.WriteLaws.{part-put}
 use Rattle.imagewriter.proofs.text.put_part.Statement.{statement}

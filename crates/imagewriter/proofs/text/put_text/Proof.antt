@@ -1,5 +1,4 @@
 -- `imagewriter::text::put_text` meets its contract. The invariant: what is left to write gives what the whole gives.
--- Assumes nothing.
 use borrow.Author.Needs.{needs}
 use Prim.Native.Nat.{_-_}
 use Rattle.imagewriter.proofs.WriteLaws.{ClassAt, class-start, class-end, part-small, part-inside, part-room, class-next}
@@ -19,8 +18,6 @@ put-text-spec =
     Inv-loop
     μ-loop
     (λ c. search (needs, class-start))
-    (λ c. search needs)
-    (λ c. search needs)
     (λ c κs. search needs)
     (λ c. search needs)
     (λ c κs. search (part-small, part-inside, part-room))

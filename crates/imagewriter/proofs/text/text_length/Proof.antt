@@ -1,5 +1,4 @@
 -- `imagewriter::text::text_length` meets its contract. The invariant: what is left to sum gives what the whole gives.
--- Assumes nothing.
 use borrow.Author.Needs.{needs}
 use mathlib.Core.Path.{_≡_}
 use Prim.Native.Nat.{_+_, _-_, _*_, _≤_}
@@ -24,8 +23,6 @@ text-length-spec =
     Inv-loop
     μ-loop
     (λ c. search (needs, valid-whole))
-    (λ c. search needs)
-    (λ c. search needs)
     (λ c κs. search needs)
     (λ c κs. search needs)
     (λ c. search needs)

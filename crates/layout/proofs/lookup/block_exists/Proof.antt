@@ -1,5 +1,4 @@
 -- `layout::lookup::block_exists` meets its contract. By the cases of the class search.
--- Assumes nothing.
 use borrow.Author.Needs.{needs}
 use Rattle.flashrules.specs.Lookup.{blockExists}
 use Rattle.flashrules.proofs.Picks.{calls}

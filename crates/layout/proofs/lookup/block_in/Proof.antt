@@ -1,5 +1,4 @@
 -- `layout::lookup::block_in` meets its contract. By the test of the offset against the length.
--- Assumes nothing.
 use borrow.Author.Needs.{needs}
 use Rattle.flashrules.proofs.LookupLaws.{block-there, block-missing}
 use Rattle.layout.proofs.lookup.block_in.Statement.{statement}

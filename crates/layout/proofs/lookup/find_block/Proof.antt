@@ -1,5 +1,4 @@
 -- `layout::lookup::find_block` meets its contract. Test by test, as the definition.
--- Assumes nothing.
 use borrow.Author.Needs.{needs}
 use Rattle.flashrules.specs.Lookup.{findBlock}
 use Rattle.flashrules.proofs.Picks.{picks, calls}

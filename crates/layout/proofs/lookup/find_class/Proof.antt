@@ -1,5 +1,4 @@
 -- `layout::lookup::find_class` meets its contract. Test by test, as the definition.
--- Assumes nothing.
 use borrow.Author.Needs.{needs}
 use Rattle.flashrules.specs.Lookup.{findClass}
 use Rattle.flashrules.proofs.Picks.{picks, calls}

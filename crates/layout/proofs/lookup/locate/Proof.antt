@@ -1,5 +1,4 @@
 -- `layout::lookup::locate` meets its contract. The invariant: what is left to search gives what the whole gives.
--- Assumes nothing.
 use mathlib.Core.Path.{_≡_}
 use Prim.Native.Nat.{_-_, _*_, _≤_}
 use lib.ListN.{drop}
@@ -21,8 +20,6 @@ locate-spec =
     (tie.spec
     Inv-loop
     μ-loop
-    (λ c. search needs)
-    (λ c. search needs)
     (λ c. search needs)
     (λ c κs. search needs)
     (λ c. search needs)

@@ -1,5 +1,4 @@
 -- `layout::valid::has_fixed_classes` meets its contract. Test by test, as the definition.
--- Assumes nothing.
 use borrow.Author.Needs.{needs}
 use Rattle.flashrules.proofs.Picks.{picks, calls}
 use Rattle.layout.proofs.valid.has_fixed_classes.Statement.{statement}

@@ -1,5 +1,4 @@
 -- `layout::valid::in_order` meets its contract. Test by test, as the definition.
--- Assumes nothing.
 use Rattle.flashrules.proofs.Picks.{picks}
 use Rattle.layout.proofs.valid.in_order.Statement.{statement}
 use Rattle.layout.proofs.valid.in_order.Tie as tie

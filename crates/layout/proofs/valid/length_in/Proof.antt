@@ -1,5 +1,4 @@
 -- `layout::valid::length_in` meets its contract. By the cases of the search.
--- Assumes nothing.
 use borrow.Author.Needs.{needs}
 use Rattle.flashrules.proofs.Picks.{picks, calls}
 use Rattle.layout.proofs.valid.length_in.Statement.{statement}

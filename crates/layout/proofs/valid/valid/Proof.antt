@@ -1,5 +1,4 @@
 -- `layout::valid::valid` meets its contract. Test by test, as the definition.
--- Assumes nothing.
 use borrow.Author.Needs.{needs}
 use Rattle.flashrules.specs.Layout.{valid}
 use Rattle.flashrules.proofs.Picks.{picks, calls}

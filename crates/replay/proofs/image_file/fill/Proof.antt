@@ -1,5 +1,4 @@
 -- `replay::image_file::fill` meets its contract. The invariant: what is filled is within the buffer.
--- Assumes nothing.
 use borrow.Author.Needs.{needs}
 use mathlib.Core.Path.{_≡_}
 use Prim.Native.Nat.{_-_, _≤_}

@@ -1,5 +1,4 @@
 -- `replay::pass::keep` meets its contract. The invariant: the front is what stood further on, and the rest is as it was.
--- Assumes nothing.
 use borrow.Author.Needs.{needs}
 use mathlib.Core.Path.{_≡_}
 use Prim.Native.Nat.{_-_, _≤_}

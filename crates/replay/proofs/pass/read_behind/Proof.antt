@@ -1,5 +1,4 @@
 -- `replay::pass::read_behind` meets its contract. The part that was lent lies behind.
--- Assumes nothing.
 use borrow.Author.Needs.{needs}
 use Rattle.replay.proofs.HeldLaws.{front-kept}
 use Rattle.replay.proofs.pass.read_behind.Statement.{statement}

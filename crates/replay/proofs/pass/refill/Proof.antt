@@ -1,5 +1,4 @@
 -- `replay::pass::refill` meets its contract. What is read stands behind what is held.
--- Assumes nothing.
 use borrow.Author.Needs.{needs}
 use Rattle.replay.proofs.HeldLaws.{held-longer}
 use Rattle.replay.proofs.pass.refill.Statement.{statement}

@@ -1,7 +1,6 @@
 -- `replay::pass::turn` meets its contract. What is held is run, and where that took nothing, more is read.
--- Assumes nothing.
 use borrow.Author.Needs.{needs}
-use Rattle.replay.proofs.StepLaws.{turn-ran, turn-read}
+use Rattle.replay.proofs.EventLaws.{turn-ran, turn-read}
 use Rattle.replay.proofs.pass.turn.Statement.{statement}
 use Rattle.replay.proofs.pass.turn.Tie as tie
 

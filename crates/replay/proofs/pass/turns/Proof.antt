@@ -1,5 +1,4 @@
--- `replay::pass::turns` meets its contract. The invariant: steps of a host led here.
--- Assumes nothing.
+-- `replay::pass::turns` meets its contract. The invariant: events of a host led here.
 use borrow.Author.Needs.{needs}
 use mathlib.Core.Path.{_≡_}
 use mathlib.Core.List.{[]}
@@ -7,16 +6,16 @@ use Prim.Native.Nat.{_≤_}
 use lib.ListN.{length}
 use Rattle.gaugerules.specs.Script.{device}
 use Rattle.scriptrules.specs.Replay.{poweredOn}
-use Rattle.replay.specs.Held.{held, BySteps}
-use Rattle.replay.proofs.StepLaws.{turn-on, pass-start, pass-end, pass-last}
+use Rattle.replay.specs.Held.{held, ByEvents}
+use Rattle.replay.proofs.EventLaws.{turn-on, pass-start, pass-end, pass-last}
 use Rattle.replay.proofs.pass.turns.Statement.{statement}
 use Rattle.replay.proofs.pass.turns.Tie as tie
 
 abbrev Inv-loop : tie.InvT-loop
-Inv-loop fd layout image₀ buffer₀ out₀ gauge₀ from₀ to₀ left₀ image buffer out gauge from to left = BySteps layout (poweredOn image₀) [] (device gauge image) (held buffer from to) × (from ≤ to) × (to ≤ length buffer) × (length buffer ≡ length buffer₀) × (length image ≡ length image₀) × (length out ≡ length out₀)
+Inv-loop fd layout image₀ buffer₀ out₀ gauge₀ from₀ to₀ read₀ turns₀ image buffer out gauge from to read turns = ByEvents layout (poweredOn image₀) [] (device gauge image) (held buffer from to) × (from ≤ to) × (to ≤ length buffer) × (length buffer ≡ length buffer₀) × (length image ≡ length image₀) × (length out ≡ length out₀)
 
 abbrev μ-loop : tie.MeasureT-loop
-μ-loop fd layout image₀ buffer₀ out₀ gauge₀ from₀ to₀ left₀ image buffer out gauge from to left = left
+μ-loop fd layout image₀ buffer₀ out₀ gauge₀ from₀ to₀ read₀ turns₀ image buffer out gauge from to read turns = turns
 
 pub turns-spec : {M : Type 1} → statement M
 turns-spec =
@@ -26,6 +25,7 @@ turns-spec =
     μ-loop
     (λ c κs. search needs)
     (λ c. (search pass-start, search needs, search needs, search needs, search needs, search needs))
+    (λ c κs. search needs)
     (λ c κs. search needs)
     (λ c. search needs)
     (λ c. search needs)

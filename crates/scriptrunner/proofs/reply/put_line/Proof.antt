@@ -1,5 +1,4 @@
--- `scriptrunner::reply::put_line` meets its contract. Two digits, the bytes behind them, the line feed.
--- Assumes nothing.
+-- `scriptrunner::reply::put_line` meets its contract. Two digits, and the line behind them.
 use borrow.Author.Needs.{needs}
 use Rattle.hextext.proofs.StoreLaws.{sets-out}
 use Rattle.scriptrunner.proofs.PutLaws.{line-put}
@@ -12,10 +11,6 @@ put-line-spec =
     (tie.spec
     (λ c. search sets-out)
     (λ c κs. search needs)
-    (λ c. search needs)
-    (λ c κs. search needs)
-    (λ c. search needs)
-    (λ c. search needs)
     (λ c. search needs)
     (λ c κs. search needs)
     (λ c. search needs)

@@ -1,5 +1,4 @@
 -- `scriptrunner::reply::read_registers` meets its contract. By the read.
--- Assumes nothing.
 use borrow.Author.Needs.{needs}
 use Rattle.scriptrunner.proofs.PutLaws.{read-few}
 use Rattle.scriptrunner.proofs.reply.read_registers.Statement.{statement}

@@ -1,5 +1,4 @@
 -- `scriptrunner::run::frame_length` meets its contract. A frame has an even number of digits, four at least.
--- Assumes nothing.
 use Rattle.scriptrunner.proofs.DecodeLaws.{half-bytes, half-least, half-most}
 use Rattle.scriptrunner.proofs.run.frame_length.Statement.{statement}
 use Rattle.scriptrunner.proofs.run.frame_length.Tie as tie

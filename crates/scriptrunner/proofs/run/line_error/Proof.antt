@@ -1,5 +1,4 @@
 -- `scriptrunner::run::line_error` meets its contract. Test by test, as the definition.
--- Assumes nothing.
 use borrow.Author.Needs.{needs}
 use Rattle.scriptrunner.proofs.LoopLaws.{refused-full, refused-short, not-refused, refused-line}
 use Rattle.scriptrunner.proofs.run.line_error.Statement.{statement}

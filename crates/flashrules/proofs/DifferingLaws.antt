@@ -1,0 +1,57 @@
+-- Laws of the number of places in which two lists differ.
+use Prim.Native.Nat.{ℕ, _+_}
+use mathlib.Core.Path.{_≡_, refl, sym, _∙_}
+use mathlib.Core.Bool.{true, false, true≢false}
+use mathlib.Core.List.{List, [], _∷_, _++_}
+use native.Mathlib.Omega.{arith}
+use lib.Dec.{eqb}
+use lib.ListN.{length}
+use borrow.Author.Tests.{eqb-true, eqb-false, eq-eqb, ne-eqb}
+use Rattle.flashrules.specs.Choice.{same, differing}
+use Rattle.flashrules.specs.Laws.{DifferingNone, DifferingSymmetric, DifferingMost, DifferingAppend}
+use Rattle.flashrules.proofs.Picks.{same-refl, same-eq, on-test}
+
+none-equal : (xs ys : List ℕ) → differing xs ys ≡ 0 → xs ≡ ys
+none-equal [] [] e = refl
+none-equal [] (y ∷ ys) e = absurd (omega arith)
+none-equal (x ∷ xs) [] e = absurd (omega arith)
+none-equal (x ∷ xs) (y ∷ ys) e =
+    on-test (eqb x y)
+    (λ p. let q : 0 + differing xs ys ≡ 0 = rw p at e in rw (eqb-true x y p, none-equal xs ys (omega arith)))
+    (λ p. absurd (let q : 1 + differing xs ys ≡ 0 = rw p at e in omega arith))
+
+pub differing-self : (xs : List ℕ) → differing xs xs ≡ 0
+differing-self [] = refl
+differing-self (x ∷ xs) = rw (eq-eqb x x refl, differing-self xs)
+
+pub differing-none : DifferingNone
+differing-none xs ys = (none-equal xs ys, λ p. rw p (differing-self ys))
+
+-- by the test
+pub same-differing : (xs ys : List ℕ) → same xs ys ≡ eqb (differing xs ys) 0
+same-differing xs ys =
+    on-test (same xs ys)
+    (λ p. rw (p, same-eq xs ys p, differing-self ys))
+    (λ p. rw (p, ne-eqb (differing xs ys) 0 (λ e. true≢false (sym (same-refl ys) ∙ rw (none-equal xs ys e) at p))))
+
+pub differing-symmetric : DifferingSymmetric
+differing-symmetric [] [] = refl
+differing-symmetric [] (y ∷ ys) = refl
+differing-symmetric (x ∷ xs) [] = refl
+differing-symmetric (x ∷ xs) (y ∷ ys) =
+    on-test (eqb x y) (λ p. rw (p, eq-eqb y x (sym (eqb-true x y p)), differing-symmetric xs ys))
+    (λ p. rw (p, ne-eqb y x (λ e. eqb-false x y p (sym e)), differing-symmetric xs ys))
+
+pub differing-most : DifferingMost
+differing-most [] [] e = omega arith
+differing-most [] (y ∷ ys) e = absurd (omega arith)
+differing-most (x ∷ xs) [] e = absurd (omega arith)
+differing-most (x ∷ xs) (y ∷ ys) e =
+    let h = differing-most xs ys (omega arith) in
+    on-test (eqb x y) (λ p. rw p (omega arith)) (λ p. rw p (omega arith))
+
+pub differing-append : DifferingAppend
+differing-append [] [] xs′ ys′ e = omega arith
+differing-append [] (y ∷ ys) xs′ ys′ e = absurd (omega arith)
+differing-append (x ∷ xs) [] xs′ ys′ e = absurd (omega arith)
+differing-append (x ∷ xs) (y ∷ ys) xs′ ys′ e = let h = differing-append xs ys xs′ ys′ (omega arith) in omega arith

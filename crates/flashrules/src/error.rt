@@ -1,0 +1,30 @@
+// Document 01's error numbers ("Numbers of the refusals"), in the order of its table; 0 is none.
+
+// No count, or a span past the last register.
+pub const INVALID_SPAN: u8 = 1;
+
+pub const READ_ONLY: u8 = 2;
+
+// A register that a sealed gauge refuses.
+pub const SEALED_REGISTER: u8 = 3;
+
+pub const UNKNOWN_CLASS: u8 = 4;
+
+pub const UNKNOWN_BLOCK: u8 = 5;
+
+pub const NOTHING_LOADED: u8 = 6;
+
+// Block A of a sealed gauge.
+pub const PROTECTED_BLOCK: u8 = 7;
+
+pub const WRONG_CHECKSUM: u8 = 8;
+
+pub const INVALID_CONTROL: u8 = 9;
+
+// A file, a script or a layout breaks its rules, or an image has another length than its layout.
+pub const MALFORMED: u8 = 10;
+
+// The lent buffer is shorter than the answer.
+pub const SHORT_BUFFER: u8 = 14;
+
+pub const INVALID_GAUGE: u8 = 15;

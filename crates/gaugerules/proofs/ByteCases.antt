@@ -1,0 +1,57 @@
+-- A proof by the cases of what one byte does: for each rule of block transfer, what it comes to and when. The one place that goes through these
+-- rules; a law of all bytes goes by them.
+use Prim.Native.Nat.{ℕ, _-_, _≤_}
+use mathlib.Core.Path.{_≡_}
+use mathlib.Core.Bool.{true, false}
+use mathlib.Core.List.{List}
+use lib.Dec.{eqb, leb}
+use lib.ListN.{length, set}
+use borrow.Author.Tests.{eqb-true, leb-true}
+use Rattle.flashrules.specs.Error.{sealedRegister, unknownBlock, invalidControl}
+use Rattle.flashrules.specs.Outcome.{Outcome, outcome}
+use Rattle.flashrules.specs.Layout.{infoClass}
+use Rattle.flashrules.specs.Lookup.{findBlock}
+use Rattle.flashrules.specs.Image.{blockBytes, asLoaded}
+use Rattle.flashrules.specs.declared.layout.Layout.{Layout}
+use Rattle.flashrules.specs.declared.lookup.Lookup.{Lookup}
+use Rattle.flashrules.proofs.Picks.{and-first, and-rest, on-answer, on-cond}
+use Rattle.gaugerules.specs.State.{controlInfo, infoBlocks, isSealed, generalAccess, withControl, withClass, withWindow, unload, load}
+use Rattle.gaugerules.specs.Transfer.{accept, refuse, setClass, loadBlock, selectsInfo, selectBlock, editError, edit, commitError, committed, setControl}
+use Rattle.gaugerules.specs.Write.{commit}
+use Rattle.gaugerules.specs.declared.state.Gauge.{Gauge}
+use Rattle.gaugerules.specs.declared.answer.ByteWritten.{ByteWritten}
+
+module _ (P : ByteWritten → Type 0) (g : Gauge) (byte : ℕ) where
+  pub on-class : P (refuse sealedRegister g) → (isSealed g ≡ false → P (accept (unload (withClass g byte)))) → P (setClass g byte)
+  unfolding setClass
+  on-class refused accepted = on-cond P (isSealed g) _ _ (λ _. refused) accepted
+
+  pub on-control : P (refuse sealedRegister g) → (isSealed g ≡ false → byte ≤ controlInfo → P (accept (unload (withControl g byte))))
+      → P (refuse invalidControl g) → P (setControl g byte)
+  unfolding setControl
+  on-control refused accepted bad =
+      on-cond P (isSealed g) _ _ (λ _. refused) (λ s. on-cond P (leb byte controlInfo) _ _ (λ h. accepted s (leb-true _ _ h)) (λ _. bad))
+
+  pub on-edit : (k : ℕ) → (editError g ≡ 0 → P (accept (withWindow g (set (g .window) k byte)))) → P (refuse (editError g) g) → P (edit g k byte)
+  unfolding edit
+  on-edit k accepted refused = on-cond P (eqb (editError g) 0) _ _ (λ e. accepted (eqb-true _ _ e)) (λ _. refused)
+
+  module _ (l : Layout) (image : List ℕ) where
+    pub on-load : (i b : ℕ) → ((s k : ℕ) → findBlock l (length image) i b ≡ Lookup.Found s k → P (accept (load g byte i b (asLoaded (blockBytes l image i b)))))
+        → ((e : ℕ) → P (refuse e g)) → P (loadBlock l image g byte i b)
+    unfolding loadBlock
+    on-load i b accepted refused = on-answer (findBlock l (length image) i b) (λ s k p. rw p (accepted s k p)) (λ e p. rw p (refused e))
+
+    pub on-select : (generalAccess g ≡ true → P (loadBlock l image g byte (g .class) byte))
+        → (1 ≤ byte → byte ≤ infoBlocks → P (loadBlock l image g byte infoClass (byte - 1))) → P (refuse unknownBlock g) → P (selectBlock l image g byte)
+    unfolding selectBlock
+    on-select general info refused =
+        on-cond P (generalAccess g) _ _ general (λ _.
+        on-cond P (selectsInfo byte) _ _ (λ t. info (search (and-first, leb-true)) (search (and-first, and-rest, leb-true))) (λ _. refused))
+
+pub on-commit : (P : Outcome ByteWritten (List ℕ) → Type 0) (l : Layout) (image : List ℕ) (g : Gauge) (byte : ℕ)
+    → (commitError l image g byte ≡ 0 → P (outcome (accept g) (committed l image g)))
+    → P (outcome (refuse (commitError l image g byte) g) image) → P (commit l image g byte)
+unfolding commit
+on-commit P l image g byte accepted refused =
+    on-cond P (eqb (commitError l image g byte) 0) _ _ (λ e. accepted (eqb-true _ _ e)) (λ _. refused)

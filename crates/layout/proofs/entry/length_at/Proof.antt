@@ -1,0 +1,15 @@
+-- `layout::entry::length_at` meets its contract. By the test.
+use borrow.Author.Needs.{needs}
+use Rattle.layout.proofs.EntryLaws.{past-entries}
+use Rattle.layout.proofs.entry.length_at.Statement.{statement}
+use Rattle.layout.proofs.entry.length_at.Tie as tie
+
+pub length-at-spec : {M : Type 1} → statement M
+length-at-spec =
+    tie.close
+    (tie.spec
+    (λ c. search needs)
+    (λ c. search needs)
+    (λ c κs. search needs)
+    (λ c. search needs)
+    (λ c. search (needs, past-entries)))

@@ -1,0 +1,27 @@
+-- What is known of the two files before anything is run. No contract can say which characters a file has; but what
+-- runs a script asks for an image that goes with its layout, and for a parser's state that ended well after so many
+-- characters: a state that forgot some of them is none of so many.
+use Prim.Native.Nat.{ℕ, _+_, _%_, _^_}
+use mathlib.Core.Path.{_≡_}
+use mathlib.Core.Bool.{Bool, true}
+use mathlib.Core.List.{List}
+use lib.ListN.{length}
+use Rattle.flashrules.specs.Layout.{fits}
+use Rattle.flashrules.specs.declared.layout.Layout.{Layout}
+use Rattle.scriptrules.specs.Parser.{start, feed, endError}
+use Rattle.scriptrules.specs.declared.parser.Parser.{Parser}
+
+-- an image file that was read, without error, as a layout and so many bytes
+pub record ImageChecked (error : ℕ) (l : Layout) (size : ℕ) : Type 0 where
+  pub fits : error ≡ 0 → fits l size ≡ true
+
+-- some text leads from one state of the parser to another, and from one number of characters, modulo 2^64, to another
+pub record Fed (s : Parser) (n : ℕ) (s′ : Parser) (n′ : ℕ) : Type 0 where
+  pub text : List ℕ
+  pub state : s′ ≡ feed s text
+  pub count : n′ ≡ (n + length text) % 2 ^ 64
+
+-- a script that was found good, with the parser's state at its end
+pub record ScriptChecked (good : Bool) (s : Parser) (n : ℕ) : Type 0 where
+  pub fed : good ≡ true → Fed start 0 s n
+  pub ended : good ≡ true → endError s ≡ 0

@@ -6,7 +6,7 @@ use mathlib.Core.List.{List, [], _∷_, _++_}
 use native.Mathlib.Omega.{arith}
 use lib.Dec.{leb}
 use lib.ListN.{length, take, drop, replicate, set}
-use lib.Seq.{getD-drop, paste}
+use lib.Seq.{getD-drop}
 use borrow.Author.Tests.{leb-true, le-leb}
 use Rattle.flashrules.specs.Lookup.{blockSize, findBlock}
 use Rattle.flashrules.specs.Image.{maxByte, Bytes, areBytes, blockBytes, asLoaded, storeBlock}

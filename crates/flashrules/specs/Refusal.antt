@@ -2,7 +2,7 @@
 -- 10, 15, 1, 14, then ..".
 use Prim.Native.Nat.{ℕ, _<_}
 use mathlib.Core.Path.{_≡_}
-use mathlib.Core.Bool.{Bool, true, false, cond}
+use mathlib.Core.Bool.{Bool, false, cond}
 use mathlib.Core.List.{List, [], _∷_}
 
 -- tests with their numbers: the number of the first that holds, 0 if none does

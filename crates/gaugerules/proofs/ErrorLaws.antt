@@ -1,18 +1,18 @@
 -- Which error a byte has: register by register, the rules answer what the rows of the table say.
 use Prim.Native.Nat.{ℕ, _+_, _-_, _*_, _≤_, _<_}
-use mathlib.Core.Path.{_≡_, refl, sym, _∙_}
+use mathlib.Core.Path.{_≡_, refl}
 use mathlib.Core.Logic.{_⊎_, inl, inr, ⊎-elim}
-use mathlib.Core.Bool.{Bool, true, false}
+use mathlib.Core.Bool.{true, false}
 use mathlib.Core.List.{List}
 use native.Mathlib.Omega.{arith}
 use lib.Dec.{eqb, leb, ltb}
 use lib.ListN.{length}
-use borrow.Author.Tests.{eqb-true, ne-eqb, le-leb, lt-leb}
+use borrow.Author.Tests.{ne-eqb, le-leb, lt-leb}
 use Rattle.checksum.specs.Checksum.{checksum}
 use Rattle.flashrules.specs.Error.{unknownBlock}
 use Rattle.flashrules.specs.Refusal.{firstError}
-use Rattle.flashrules.specs.Outcome.{Outcome, outcome}
-use Rattle.flashrules.specs.Layout.{infoClass, classes, locate, fits, valid as validLayout}
+use Rattle.flashrules.specs.Outcome.{outcome}
+use Rattle.flashrules.specs.Layout.{infoClass, classes, locate, fits}
 use Rattle.flashrules.specs.Lookup.{blockSize, findClass, findBlock, blockExists}
 use Rattle.flashrules.specs.Image.{blockBytes, asLoaded}
 use Rattle.flashrules.specs.declared.layout.Layout.{Layout}
@@ -22,14 +22,13 @@ use Rattle.flashrules.proofs.LookupLaws.{locate-refused}
 use Rattle.flashrules.proofs.RefusalLaws.{first-in}
 use Rattle.flashrules.proofs.Picks.{on-test, on-answer}
 use Rattle.gaugerules.specs.State.{controlInfo, infoBlocks, isSealed, generalAccess, noneLoaded, load}
-use Rattle.gaugerules.specs.Register.{dataFlashBlock, blockData, registerOf}
+use Rattle.gaugerules.specs.Register.{blockData, registerOf}
 use Rattle.gaugerules.specs.Transfer.{accept, refuse, setClass, loadBlock, selectsInfo, selectBlock, isProtected, editError, edit, commitError, setControl}
 use Rattle.gaugerules.specs.Write.{commit, writeAt, writeByte}
 use Rattle.gaugerules.specs.Table.{byteTests}
 use Rattle.gaugerules.specs.Laws.{ByteError, ByteErrors, InfoLoads}
 use Rattle.gaugerules.specs.declared.state.Gauge.{Gauge}
 use Rattle.gaugerules.specs.declared.register.Register.{Register}
-use Rattle.gaugerules.specs.declared.answer.ByteWritten.{ByteWritten}
 use Rattle.gaugerules.proofs.RegisterLaws.{on-register}
 use Rattle.gaugerules.proofs.LoadedLaws.{info-picked}
 
@@ -133,11 +132,11 @@ module _ (l : Layout) (image : List ℕ) (g : Gauge) (byte : ℕ) (f : fits l (l
       (λ e. rw e at-block) (at-edit r) (λ e. rw e at-checksum) (λ e. rw e at-control) (at-other r)
 
 pub byte-error : ByteError
-byte-error l image g r byte f v = at-register l image g byte f r
+byte-error l image g r byte f = at-register l image g byte f r
 
 -- no row has another number
 pub byte-errors : ByteErrors
-byte-errors l image g r byte f v = rw (byte-error l image g r byte f v) any
+byte-errors l image g r byte f = rw (byte-error l image g r byte f) any
   where
     Few : ℕ → Type 0
     Few e = (e ≡ 0) ⊎ ((2 ≤ e) × (e ≤ 9))

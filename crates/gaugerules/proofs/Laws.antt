@@ -6,6 +6,6 @@ pub use Rattle.gaugerules.proofs.WindowLaws.{write-length}
 pub use Rattle.gaugerules.proofs.CommitLaws.{commit-rule}
 pub use Rattle.gaugerules.proofs.WholeWrite.{write-commits, write-by-bytes}
 pub use Rattle.gaugerules.proofs.ReadLaws.{read-refused, read-accepted}
-pub use Rattle.gaugerules.proofs.SameLayouts.{same-write, same-read}
+pub use Rattle.gaugerules.proofs.SameLayouts.{same-valid, same-write, same-read}
 pub use Rattle.gaugerules.proofs.KeyLaws.{unseals-by-key}
 pub use Rattle.gaugerules.proofs.Noninterference.{sealed-noninterference, noninterference}

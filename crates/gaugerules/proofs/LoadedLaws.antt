@@ -1,10 +1,9 @@
 -- Laws of the view of what is loaded: what a load puts there, and the refusals of a window's byte by it.
 use Prim.Native.Nat.{ℕ, _-_, _/_, _%_, _≤_, _<_}
-use mathlib.Core.Path.{_≡_, refl, sym, _∙_}
+use mathlib.Core.Path.{_≡_}
 use mathlib.Core.Bool.{true, false}
 use mathlib.Core.List.{List}
 use native.Mathlib.Omega.{arith}
-use lib.Dec.{eqb}
 use borrow.Author.Tests.{eqb-true, leb-true, not-false, ne-eqb}
 use Rattle.checksum.specs.Checksum.{checksum}
 use Rattle.flashrules.specs.Image.{maxByte}

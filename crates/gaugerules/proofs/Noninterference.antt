@@ -340,13 +340,13 @@ module _ (l : Layout) (start₁ start₂ : List ℕ) where
     agreeing : Agreeing image₁ image₂
 
   -- what is claimed of the runs over bs
-  abbrev RunsAlike : List ℕ → Type 0
-  RunsAlike bs =
+  abbrev SameRuns : List ℕ → Type 0
+  SameRuns bs =
       (g : Gauge) (image₁ image₂ : List ℕ) (r n : ℕ) → Quiet g → Agreeing image₁ image₂
       → isSealed (writeBytes l image₁ g r n bs .answer .gauge) ≡ true → isSealed (writeBytes l image₂ g r n bs .answer .gauge) ≡ true
       → BothRan (writeBytes l image₁ g r n bs) (writeBytes l image₂ g r n bs)
 
-  one-more : (b : ℕ) (bs : List ℕ) → RunsAlike bs → RunsAlike (b ∷ bs)
+  one-more : (b : ℕ) (bs : List ℕ) → SameRuns bs → SameRuns (b ∷ bs)
   unfolding writeByte
   one-more b bs ih g image₁ image₂ r n q t h₁ h₂ =
       ⊎-elim (λ s. on-test (eqb (s .byte .error) 0) (more s) (last s))
@@ -377,7 +377,7 @@ module _ (l : Layout) (start₁ start₂ : List ℕ) where
         agreeing = s .agreeing;
       }
 
-  runs : (bs : List ℕ) → RunsAlike bs
+  runs : (bs : List ℕ) → SameRuns bs
   unfolding writeBytes
   runs [] = λ g image₁ image₂ r n q t h₁ h₂. record { answer = written 0 n g; image₁ = image₁; image₂ = image₂; is₁ = refl; is₂ = refl; quiet = q; agreeing = t }
   runs (b ∷ bs) = one-more b bs (runs bs)

@@ -19,21 +19,21 @@ use Rattle.gaugerules.specs.Transfer.{loadBlock, selectBlock, committed,
 use Rattle.gaugerules.specs.Write.{commit, writeAt, writeByte, written, writeBytes, callError, write}
 use Rattle.gaugerules.specs.Read.{readError, read}
 use Rattle.gaugerules.specs.Script.{Device, Call, toWrite, toRead, reply, afterCall}
-use Rattle.gaugerules.specs.Laws.{SameWrite, SameRead}
+use Rattle.gaugerules.specs.Laws.{SameValid, SameWrite, SameRead}
 use Rattle.gaugerules.specs.declared.state.Gauge.{Gauge}
 use Rattle.gaugerules.specs.declared.register.Register.{Register}
 use Rattle.gaugerules.specs.declared.answer.Written.{Written}
 use Rattle.gaugerules.proofs.Picks.{on-loaded}
 
+pub same-valid : SameValid
+unfolding valid
+same-valid l l′ s g = on-loaded (loadedOf (g .loaded)) (λ p. rw p) (λ i b p. rw (p, same-layout l l′ s .exists i b))
+
 module _ (l l′ : Layout) (s : SameClasses l l′) where
   found : SameLookups l l′
   found = same-layout l l′ s
 
-  pub same-valid : (g : Gauge) → valid l g ≡ valid l′ g
-  unfolding valid
-  same-valid g = on-loaded (loadedOf (g .loaded)) (λ p. rw p) (λ i b p. rw (p, found .exists i b))
-
-  pub same-bytes : (image : List ℕ) (i b : ℕ) → blockBytes l image i b ≡ blockBytes l′ image i b
+  same-bytes : (image : List ℕ) (i b : ℕ) → blockBytes l image i b ≡ blockBytes l′ image i b
   unfolding blockBytes
   same-bytes image i b = rw (found .block (length image) i b)
 
@@ -72,7 +72,7 @@ module _ (l l′ : Layout) (s : SameClasses l l′) where
 
   same-call : (size : ℕ) (g : Gauge) (r n : ℕ) → callError l size g r n ≡ callError l′ size g r n
   unfolding callError
-  same-call size g r n = rw (found .fits size, same-valid g)
+  same-call size g r n = rw (found .fits size, same-valid l l′ s g)
 
 pub same-write : SameWrite
 unfolding write

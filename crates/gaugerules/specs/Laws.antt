@@ -58,7 +58,6 @@ WriteLength =
 -- ---- refusals
 
 -- demand 1: "A refused byte alters nothing, the bytes before it stand, a refused read leaves the buffer untouched."
-
 abbrev pub RefusedByte : Type 0
 RefusedByte =
     (l : Layout) (image : List ℕ) (g : Gauge) (r byte : ℕ) → let s = writeByte l image g r byte in
@@ -86,15 +85,16 @@ ReadAccepted =
 
 -- ---- which error a byte has
 
--- 01: "Each is given when its row says so and never else.", "2 to 9 answer written bytes only"
+-- 01: "Each is given when its row says so and never else.", "2 to 9 answer written bytes only": of any gauge over an
+-- image of the layout
 abbrev pub ByteError : Type 0
 ByteError =
-    (l : Layout) (image : List ℕ) (g : Gauge) (r byte : ℕ) → fits l (length image) ≡ true → valid l g ≡ true
+    (l : Layout) (image : List ℕ) (g : Gauge) (r byte : ℕ) → fits l (length image) ≡ true
     → writeByte l image g r byte .answer .error ≡ firstError (byteTests l g r byte)
 
 abbrev pub ByteErrors : Type 0
 ByteErrors =
-    (l : Layout) (image : List ℕ) (g : Gauge) (r byte : ℕ) → fits l (length image) ≡ true → valid l g ≡ true
+    (l : Layout) (image : List ℕ) (g : Gauge) (r byte : ℕ) → fits l (length image) ≡ true
     → let e = writeByte l image g r byte .answer .error in (e ≡ 0) ⊎ ((2 ≤ e) × (e ≤ 9))
 
 -- 01: "Otherwise 1, 2, 3 load A, B, C": always
@@ -167,6 +167,9 @@ WriteByBytes =
     → callError l (length image) g r (length bytes) ≡ 0 → write l image g r bytes ≡ byteByByte l image g r 0 bytes
 
 -- ---- layouts that mean the same are the same to every rule
+
+abbrev pub SameValid : Type 0
+SameValid = (l l′ : Layout) → SameClasses l l′ → (g : Gauge) → valid l g ≡ valid l′ g
 
 abbrev pub SameWrite : Type 0
 SameWrite =

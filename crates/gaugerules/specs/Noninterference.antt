@@ -36,7 +36,8 @@ pub record Kept (l : Layout) (start image : List ℕ) : Type 0 where
 -- ---- two devices under one script
 
 -- they began with the images start₁ and start₂: as long as no call unseals either, the replies are equal, and after
--- the call the images agree and each is kept; and so on with the rest of the script
+-- the call the images agree and each is kept; and so on with the rest of the script. The layouts mean the same, so
+-- that l₁ tells where the blocks of both lie
 abbrev pub Indistinguishable : Layout → Layout → List ℕ → List ℕ → Device → Device → List Call → Type 0
 Indistinguishable l₁ l₂ start₁ start₂ d₁ d₂ [] = Unit
 Indistinguishable l₁ l₂ start₁ start₂ d₁ d₂ (c ∷ cs) =

@@ -1,5 +1,5 @@
 -- The state of a gauge: named numbers, tests, and the changes that the rules make. Document 01, "The gauge record".
--- A field that is added to the record is added to the changes here and to nothing else.
+-- A field that is added to the record is added to the changes here and to `inRange` of specs/Valid.antt.
 use Prim.Native.Nat.{ℕ, _+_, _*_, _/_, _%_}
 use mathlib.Core.Bool.{Bool, true, false, cond}
 use mathlib.Core.List.{List}

@@ -1,4 +1,4 @@
--- Laws of the calls: a text judged by the text that is written again, and the answers.
+-- Laws of the calls: a text held to the text that is written again, and the answers.
 use Prim.Native.Nat.{ℕ, _-_, _≤_, _<_}
 use mathlib.Core.Path.{_≡_, refl, sym, _∙_}
 use mathlib.Core.Bool.{Bool, true, false, cond, true≢false}

@@ -1,4 +1,4 @@
-// An image file is judged and read. Refusals come in the order 10, 14; a refused call leaves the lent buffer untouched.
+// An image file is parsed and read. Refusals come in the order 10, 14; a refused call leaves the lent buffer untouched.
 //
 // Reading takes a candidate for what a text holds, asking hardly anything of it, writes the text of that candidate and compares. So what is
 // accepted is written out as the very same text by construction; order, gaps, checksums, case and line ends are judged by the

@@ -1,4 +1,4 @@
--- The image file: judged, read and written. Document 01, "Image file", "Numbers of the refusals" 10 and 14, and the
+-- The image file: parsed, read and written. Document 01, "Image file", "Numbers of the refusals" 10 and 14, and the
 -- order there: "For writing a file: 10, 14. A file is read first to judge it, so a 10 stores nothing; then 14."
 use Prim.Native.Nat.{ℕ}
 use mathlib.Core.Bool.{Bool, cond}
@@ -16,7 +16,7 @@ use Rattle.imagerules.specs.Candidate.{Content, candidate}
 use Rattle.imagerules.specs.declared.answer.FileRead.{FileRead}
 use Rattle.imagerules.specs.declared.answer.FileWritten.{FileWritten}
 
--- ---- judging
+-- ---- parsing (document 01: a file is judged)
 
 -- a candidate holds of a text: its layout and its bytes fit each other, and theirs is the text
 unfoldable pub holds : Content → List ℕ → Bool

@@ -19,7 +19,7 @@ fn wide16(x: u16) -> usize
 }
 
 // The identifier of the class with an index, 0 past the last entry.
-pub fn id_at(layout: Layout, k: usize) -> usize
+pub(crate) fn id_at(layout: Layout, k: usize) -> usize
     ensures { λ r. ⌜ (r ≡ getD (layout .ids) k 0) × (r < 256) ⌝ }
 {
     if k < MAX_CLASSES {

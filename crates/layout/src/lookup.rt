@@ -1,5 +1,5 @@
 // Finding a class and a block of a class: where its bytes lie in the image, or document 01's error number. Refusals come in the
-// order 10, 4, 5. The layout is judged at each call: a few passes over the entries in use, at most 32, and no byte of the image.
+// order 10, 4, 5. The layout is tested at each call: a few passes over the entries in use, at most 32, and no byte of the image.
 use crate::entry::length_at;
 use crate::valid::fits;
 use crate::valid::valid;

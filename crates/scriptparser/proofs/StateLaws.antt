@@ -1,4 +1,4 @@
--- The state of the judge, as the code makes it.
+-- The state of the parser, as the code makes it.
 use Prim.Native.Nat.{ℕ, suc, _+_, _*_, _≤_, _<_}
 use mathlib.Core.Path.{_≡_}
 use mathlib.Core.Bool.{Bool, true, false}

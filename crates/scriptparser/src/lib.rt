@@ -1,4 +1,4 @@
-// Whether a text is a script. The state goes in and comes back by value, so a script of any length is judged in chunks: `start`, `feed`
+// Whether a text is a script. The state goes in and comes back by value, so a script of any length is parsed in chunks: `start`, `feed`
 // for each chunk, `end`.
 use flashrules::error::MALFORMED;
 use hextext::LINE_FEED;

@@ -22,9 +22,9 @@ use Rattle.scriptrules.proofs.ReplyLaws.{replies-append}
 use Rattle.scriptrules.proofs.ScriptLaws.{frames-script}
 use Rattle.scriptrules.proofs.RunLaws.{run-frames}
 
-judge-frames : (y : List ℕ) → endError (feed start y) ≡ 0 → parseScript y ≡ script (framesOf (linesOf y))
+parse-frames : (y : List ℕ) → endError (feed start y) ≡ 0 → parseScript y ≡ script (framesOf (linesOf y))
 unfolding parseScript
-judge-frames y e = rw (eq-eqb _ _ e)
+parse-frames y e = rw (eq-eqb _ _ e)
 
 -- what one call printed and what is still to be run, of a text held and one to come
 run-prints : (l : Layout) (d : Device) (held more buffer : List ℕ) (s : Outcome Progress Lent) → Ran l d held buffer s
@@ -49,4 +49,4 @@ prints l (runs buffer ∷ ss) d held printed e =
 
 pub host-prints : HostPrints
 unfolding replay
-host-prints x y l bytes ss p q a e = rw (p, judge-frames y q, ← a) (prints l ss (poweredOn bytes) [] [] e)
+host-prints x y l bytes ss p q a e = rw (p, parse-frames y q, ← a) (prints l ss (poweredOn bytes) [] [] e)

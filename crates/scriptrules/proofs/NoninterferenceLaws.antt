@@ -1,4 +1,4 @@
--- Demand 3 of outputs: from the silence of calls, frame by frame.
+-- Demand 3 of outputs: from that of calls, frame by frame.
 use Prim.Native.Nat.{ℕ}
 use mathlib.Core.Path.{_≡_, refl}
 use mathlib.Core.Bool.{true, false, not}

@@ -125,9 +125,9 @@ pub read-script : (x : List ℕ) → endError (feed start x) ≡ 0 → IsScript 
 read-script x e = read-from [] x typed-none e
 
 module _ (x : List ℕ) (fs : List Frame) where
-  judge-is : parseScript x ≡ script fs → IsScript fs x
+  parse-is : parseScript x ≡ script fs → IsScript fs x
   unfolding parseScript
-  judge-is e =
+  parse-is e =
       on-test (eqb (endError (feed start x)) 0)
       (λ t.
       let p : script (framesOf (linesOf x)) ≡ script fs = rw t at e in
@@ -135,9 +135,9 @@ module _ (x : List ℕ) (fs : List Frame) where
       rw q at (read-script x (eqb-true _ _ t)))
       (λ t. let p : noScript ≡ script fs = rw t at e in let z : _≡_ {A = ℕ} 0 1 = cc in absurd (omega arith))
 
-  is-judge : IsScript fs x → parseScript x ≡ script fs
+  is-parsed : IsScript fs x → parseScript x ≡ script fs
   unfolding parseScript endError
-  is-judge s = rw (← s .text, feed-script fs (s .sendable), frames-back fs (s .sendable))
+  is-parsed s = rw (← s .text, feed-script fs (s .sendable), frames-back fs (s .sendable))
 
 pub accepted-script : AcceptedScript
-accepted-script x fs = (judge-is x fs, is-judge x fs)
+accepted-script x fs = (parse-is x fs, is-parsed x fs)

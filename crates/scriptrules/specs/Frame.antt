@@ -39,7 +39,7 @@ abbrev pub serializeScript : List Frame → List ℕ
 serializeScript [] = []
 serializeScript (f ∷ fs) = lineOf f ++ (lineFeed ∷ serializeScript fs)
 
--- ---- and back, asking nothing of the text: specs/Judge.antt says which texts are scripts
+-- ---- and back, asking nothing of the text: specs/Parser.antt says which texts are scripts
 
 -- the whole lines of a text, each without its line feed; `line` stands before the text, in its first line
 abbrev pub linesAfter : List ℕ → List ℕ → List (List ℕ)

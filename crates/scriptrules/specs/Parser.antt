@@ -1,5 +1,5 @@
--- Which texts are scripts: judged character by character, by a state that goes in and comes back, so that a script of
--- any length can be judged in chunks. specs/Laws.antt says which texts these are, in terms of specs/Frame.antt alone
+-- Which texts are scripts: parsed character by character, by a state that goes in and comes back, so that a script of
+-- any length can be parsed in chunks. specs/Laws.antt says which texts these are, in terms of specs/Frame.antt alone
 -- (`IsScript`).
 use Prim.Native.Nat.{ℕ, _+_, _*_, _%_}
 use mathlib.Core.Bool.{Bool, true, false, cond}

@@ -1,4 +1,4 @@
-// Frames, and the state of the judge that goes in and comes back by value.
+// Frames, and the state of the parser, which goes in and comes back by value.
 // A frame's first byte.
 pub const READ: u8 = 0;
 

@@ -10,7 +10,7 @@ use hextext::encode_byte;
 use hextext::encode_line;
 use scriptrules::answer::Answered;
 ghost use mathlib.Core.Path.{_≡_};
-ghost use mathlib.Core.List.{[], _∷_};
+ghost use mathlib.Core.List.{_∷_};
 ghost use Prim.Native.Nat.{_%_, _≤_};
 ghost use lib.ListN.{length};
 ghost use lib.Seq.{sets};

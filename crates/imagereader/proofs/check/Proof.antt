@@ -1,4 +1,4 @@
--- `imagereader::check` meets its contract. By the judgement.
+-- `imagereader::check` meets its contract. By what was parsed.
 use borrow.Author.Needs.{needs}
 use Rattle.imagereader.proofs.FileLaws.{check-good, check-bad}
 use Rattle.imagereader.proofs.check.Statement.{statement}

@@ -1,4 +1,4 @@
--- `imagereader::read` meets its contract. By the judgement.
+-- `imagereader::read` meets its contract. By what was parsed.
 use borrow.Author.Needs.{needs}
 use Rattle.imagereader.proofs.FileLaws.{read-bad, read-short, read-good}
 use Rattle.imagereader.proofs.read.Statement.{statement}

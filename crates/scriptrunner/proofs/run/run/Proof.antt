@@ -4,8 +4,7 @@ use mathlib.Core.Path.{_≡_}
 use Prim.Native.Nat.{_-_, _≤_}
 use lib.ListN.{length, drop}
 use Rattle.scriptrules.specs.Frame.{linesOf}
-use Rattle.flashrules.specs.Outcome.{outcome}
-use Rattle.scriptrules.specs.Run.{lend, runLines, run}
+use Rattle.scriptrules.specs.Run.{runLines, run}
 use Rattle.scriptrunner.proofs.LoopLaws.{run-start, run-done, run-end, run-more, run-stop}
 use Rattle.scriptrunner.proofs.run.run.Statement.{statement}
 use Rattle.scriptrunner.proofs.run.run.Tie as tie

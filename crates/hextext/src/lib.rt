@@ -32,7 +32,7 @@ pub fn pair(high: u8, low: u8) -> u8
 }
 
 // One byte as it is.
-pub fn store(byte: u8, buffer: &mut [u8], at: usize)
+fn store(byte: u8, buffer: &mut [u8], at: usize)
     ensures { λ _. ⌜ now (buffer .exit) ≡ sets (now (buffer .entry)) at (byte ∷ []) ⌝ }
 {
     if buffer.len() <= at {

@@ -1,4 +1,4 @@
--- Turns of the second pass as a host's steps.
+-- Turns of the second pass as events of a host.
 use Prim.Native.Nat.{ℕ, _+_, _-_, _≤_}
 use mathlib.Core.Path.{_≡_, refl, sym, _∙_}
 use mathlib.Core.List.{List, [], _∷_, _++_, append-nil}
@@ -15,7 +15,7 @@ use Rattle.scriptrules.specs.declared.answer.Progress.{Progress}
 use Rattle.replay.specs.Held.{held, Longer, Turned, ByEvents, Passed}
 use Rattle.replay.proofs.HeldLaws.{held-length, held-drop}
 
--- ---- steps one after the other
+-- ---- events one after the other
 
 module _ (l : Layout) where
   handle-append : (h : Host) (ss ts : List Event) → handleAll l h (ss ++ ts) ≡ handleAll l (handleAll l h ss) ts

@@ -1,4 +1,4 @@
--- What the second pass does, as a host's steps (crate `scriptrules`, specs/Host.antt): by the claim `HostPrints`
+-- What the second pass does, as events of a host (crate `scriptrules`, specs/Host.antt): by the claim `HostPrints`
 -- there, a host that has run all of a script has printed what document 01 asks for. No contract can say what is read
 -- from a file or printed.
 use Prim.Native.Nat.{ℕ, _-_}
@@ -25,7 +25,7 @@ pub record Turned (l : Layout) (out : List ℕ) (d : Device) (x : List ℕ) (d�
   pub device : handleAll l (host d x []) (runs out ∷ arrives more ∷ []) .device ≡ d′
   pub text : handleAll l (host d x []) (runs out ∷ arrives more ∷ []) .held ≡ x′
 
--- some steps lead from a device and a text held to another device and text
+-- some events lead from a device and a text held to another device and text
 pub record ByEvents (l : Layout) (d : Device) (x : List ℕ) (d′ : Device) (x′ : List ℕ) : Type 0 where
   pub taken : List Event
   pub device : handleAll l (host d x []) taken .device ≡ d′

@@ -1,5 +1,5 @@
-// The second pass over the script: its frames are run, and their replies printed. specs/Held.antt says in which sense its turns are a
-// host's steps.
+// The second pass over the script: its frames are run, and their replies printed. specs/Held.antt says in which sense its turns are
+// events of a host.
 use crate::input::Got;
 use crate::input::read_some;
 use crate::output::print;
@@ -139,8 +139,7 @@ struct Ended {
     read: u64,
 }
 
-// Turn after turn, from power-on. Nothing says that a file ends, so the loop counts down
-// from a number that no run uses up.
+// Turn after turn, from power-on. Nothing says that a file ends, so the loop counts down from a number that no run uses up.
 fn turns(fd: i32, layout: Layout, image: &mut [u8], buffer: &mut [u8], out: &mut [u8]) -> Ended
     ensures { λ r. ⌜ Passed layout (poweredOn (now (image .entry))) (now (image .exit)) (r .held) ⌝ }
 {
@@ -186,6 +185,6 @@ pub(crate) fn replay(fd: i32, layout: Layout, image: &mut [u8], state: Parser, c
         return;
     }
     if ended.read != count {
-        report(b"script.hex: changed while it was replayed");
+        report(b"script.hex: not replayed as it was parsed");
     }
 }

@@ -1,5 +1,5 @@
 -- A host of the calls: a program that gets a script piece by piece, runs what it has, and prints the replies. What it
--- does is a list of steps, so that a claim about every list of steps is one about every way to cut a script and every
+-- does is a list of events, so that a claim about every list of events is one about every way to cut a script and every
 -- buffer lent.
 use Prim.Native.Nat.{ℕ}
 use mathlib.Core.List.{List, [], _∷_, _++_}

@@ -245,22 +245,25 @@ module _ (l : Layout) (start₁ start₂ : List ℕ) where
   same-length : {image₁ image₂ : List ℕ} → Agreeing image₁ image₂ → length image₁ ≡ length image₂
   same-length t = fits-parts l _ (t .fits₁) .1 ∙ sym (fits-parts l _ (t .fits₂) .1)
 
-  -- ---- one byte
-
-  -- both devices come to one error and one gauge
-  record Both (s₁ s₂ : Outcome ByteWritten (List ℕ)) : Type 0 where
-    byte : ByteWritten
+  -- both devices come to one answer, with one gauge
+  record Both (A : Type 0) (gaugeOf : A → Gauge) (s₁ s₂ : Outcome A (List ℕ)) : Type 0 where
+    answer : A
     image₁ : List ℕ
     image₂ : List ℕ
-    is₁ : s₁ ≡ outcome byte image₁
-    is₂ : s₂ ≡ outcome byte image₂
-    quiet : Quiet (byte .gauge)
+    is₁ : s₁ ≡ outcome answer image₁
+    is₂ : s₂ ≡ outcome answer image₂
+    quiet : Quiet (gaugeOf answer)
     agreeing : Agreeing image₁ image₂
+
+  -- ---- one byte
+
+  abbrev BothBytes : Outcome ByteWritten (List ℕ) → Outcome ByteWritten (List ℕ) → Type 0
+  BothBytes s₁ s₂ = Both ByteWritten (λ b. b .gauge) s₁ s₂
 
   module _ (image₁ image₂ : List ℕ) (t : Agreeing image₁ image₂) (g : Gauge) (byte : ℕ) (q : Quiet g) where
     -- the images stay
-    to : {s₁ s₂ : Outcome ByteWritten (List ℕ)} (s : ByteWritten) → s₁ ≡ outcome s image₁ → s₂ ≡ outcome s image₂ → Quiet (s .gauge) → Both s₁ s₂
-    to s p₁ p₂ c = record { byte = s; image₁ = image₁; image₂ = image₂; is₁ = p₁; is₂ = p₂; quiet = c; agreeing = t }
+    to : {s₁ s₂ : Outcome ByteWritten (List ℕ)} (s : ByteWritten) → s₁ ≡ outcome s image₁ → s₂ ≡ outcome s image₂ → Quiet (s .gauge) → BothBytes s₁ s₂
+    to s p₁ p₂ c = record { answer = s; image₁ = image₁; image₂ = image₂; is₁ = p₁; is₂ = p₂; quiet = c; agreeing = t }
 
     committed-agreeing : Editable g → Agreeing (committed l image₁ g) (committed l image₂ g)
     unfolding committed
@@ -282,13 +285,13 @@ module _ (l : Layout) (start₁ start₂ : List ℕ) where
     unfolding commitError
     same-error = refl
 
-    at-checksum : Both (commit l image₁ g byte) (commit l image₂ g byte)
+    at-checksum : BothBytes (commit l image₁ g byte) (commit l image₂ g byte)
     unfolding commit
     at-checksum =
         on-test (eqb (commitError l image₁ g byte) 0)
         (λ h.
         record {
-          byte = accept g;
+          answer = accept g;
           image₁ = committed l image₁ g;
           image₂ = committed l image₂ g;
           is₁ = rw h;
@@ -301,7 +304,7 @@ module _ (l : Layout) (start₁ start₂ : List ℕ) where
     abbrev Unseals : List ℕ → Type 0
     Unseals image = isSealed (obey l image g (word (g .low) byte)) ≡ false
 
-    at-word : Both (writeAt Register.ControlHigh l image₁ g byte) (writeAt Register.ControlHigh l image₂ g byte) ⊎ (Unseals image₁ ⊎ Unseals image₂)
+    at-word : BothBytes (writeAt Register.ControlHigh l image₁ g byte) (writeAt Register.ControlHigh l image₂ g byte) ⊎ (Unseals image₁ ⊎ Unseals image₂)
     unfolding writeAt
     at-word =
         let w = word (g .low) byte in
@@ -315,7 +318,7 @@ module _ (l : Layout) (start₁ start₂ : List ℕ) where
         (λ s₂. inr (inr s₂)))
         (λ s₁. inr (inl s₁))
 
-    at-register : (k : Register) → Both (writeAt k l image₁ g byte) (writeAt k l image₂ g byte) ⊎ ((k ≡ Register.ControlHigh) × (Unseals image₁ ⊎ Unseals image₂))
+    at-register : (k : Register) → BothBytes (writeAt k l image₁ g byte) (writeAt k l image₂ g byte) ⊎ ((k ≡ Register.ControlHigh) × (Unseals image₁ ⊎ Unseals image₂))
     unfolding writeAt
     at-register Register.ControlLow = inl (to (accept (withLow g byte)) refl refl (record { is-sealed = q .is-sealed; info = q .info; whole = q .whole }))
     at-register Register.ControlHigh = ⊎-elim (λ b. inl b) (λ o. inr (refl, o)) at-word
@@ -329,15 +332,8 @@ module _ (l : Layout) (start₁ start₂ : List ℕ) where
 
   -- ---- a write
 
-  -- both writes come to one answer and one gauge
-  record BothRan (w₁ w₂ : Outcome Written (List ℕ)) : Type 0 where
-    answer : Written
-    image₁ : List ℕ
-    image₂ : List ℕ
-    is₁ : w₁ ≡ outcome answer image₁
-    is₂ : w₂ ≡ outcome answer image₂
-    quiet : Quiet (answer .gauge)
-    agreeing : Agreeing image₁ image₂
+  abbrev BothRan : Outcome Written (List ℕ) → Outcome Written (List ℕ) → Type 0
+  BothRan w₁ w₂ = Both Written (λ w. w .gauge) w₁ w₂
 
   -- what is claimed of the runs over bs
   abbrev SameRuns : List ℕ → Type 0
@@ -349,30 +345,30 @@ module _ (l : Layout) (start₁ start₂ : List ℕ) where
   one-more : (b : ℕ) (bs : List ℕ) → SameRuns bs → SameRuns (b ∷ bs)
   unfolding writeByte
   one-more b bs ih g image₁ image₂ r n q t h₁ h₂ =
-      ⊎-elim (λ s. on-test (eqb (s .byte .error) 0) (more s) (last s))
+      ⊎-elim (λ s. on-test (eqb (s .answer .error) 0) (more s) (last s))
       (λ o.
       ⊎-elim (λ u. absurd (run-unseals l image₁ g r n b bs (o .0) u h₁)) (λ u. absurd (run-unseals l image₂ g r n b bs (o .0) u h₂)) (o .1))
       (at-register image₁ image₂ t g b q (registerOf r))
     where
       First : Type 0
-      First = Both (writeByte l image₁ g r b) (writeByte l image₂ g r b)
+      First = BothBytes (writeByte l image₁ g r b) (writeByte l image₂ g r b)
 
       Goal : Type 0
       Goal = BothRan (writeBytes l image₁ g r n (b ∷ bs)) (writeBytes l image₂ g r n (b ∷ bs))
 
-      more : (s : First) → eqb (s .byte .error) 0 ≡ true → Goal
+      more : (s : First) → eqb (s .answer .error) 0 ≡ true → Goal
       more s h =
-          let p₁ = goes-on l image₁ g r n b bs (s .byte) (s .image₁) (s .is₁) h in
-          let p₂ = goes-on l image₂ g r n b bs (s .byte) (s .image₂) (s .is₂) h in
-          rw (p₁, p₂) (ih (s .byte .gauge) (s .image₁) (s .image₂) (r + 1) (n + 1) (s .quiet) (s .agreeing) (rw p₁ at h₁) (rw p₂ at h₂))
+          let p₁ = goes-on l image₁ g r n b bs (s .answer) (s .image₁) (s .is₁) h in
+          let p₂ = goes-on l image₂ g r n b bs (s .answer) (s .image₂) (s .is₂) h in
+          rw (p₁, p₂) (ih (s .answer .gauge) (s .image₁) (s .image₂) (r + 1) (n + 1) (s .quiet) (s .agreeing) (rw p₁ at h₁) (rw p₂ at h₂))
 
-      last : (s : First) → eqb (s .byte .error) 0 ≡ false → Goal
+      last : (s : First) → eqb (s .answer .error) 0 ≡ false → Goal
       last s h = record {
-        answer = written (s .byte .error) n (s .byte .gauge);
+        answer = written (s .answer .error) n (s .answer .gauge);
         image₁ = s .image₁;
         image₂ = s .image₂;
-        is₁ = stops l image₁ g r n b bs (s .byte) (s .image₁) (s .is₁) h;
-        is₂ = stops l image₂ g r n b bs (s .byte) (s .image₂) (s .is₂) h;
+        is₁ = stops l image₁ g r n b bs (s .answer) (s .image₁) (s .is₁) h;
+        is₂ = stops l image₂ g r n b bs (s .answer) (s .image₂) (s .is₂) h;
         quiet = s .quiet;
         agreeing = s .agreeing;
       }

@@ -1,6 +1,6 @@
 // Finding a class and a block of a class: where its bytes lie in the image, or document 01's error number. Refusals come in the
 // order 10, 4, 5. The layout is tested at each call: a few passes over the entries in use, at most 32, and no byte of the image.
-use crate::entry::length_at;
+use crate::entry::wide16;
 use crate::valid::fits;
 use crate::valid::valid;
 use flashrules::error::MALFORMED;
@@ -33,7 +33,7 @@ pub(crate) fn locate(layout: Layout, class: u8) -> Lookup
     let mut start: usize = 0;
     let mut k = 0;
     while k < layout.count {
-        let len = length_at(layout, k);
+        let len = wide16(layout.lengths[k]);
         if layout.ids[k] == class {
             return Lookup::Found { start, len };
         }

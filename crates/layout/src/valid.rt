@@ -1,7 +1,7 @@
 // Layouts: which classes an image has, in which order and how long. A layout is plain numbers, so a broken one can be
 // passed to every function; `valid` is the test that the others rest on.
-use crate::entry::id_at;
-use crate::entry::length_at;
+use crate::entry::wide8;
+use crate::entry::wide16;
 use crate::lookup::locate;
 use flashrules::layout::INFO_CLASS;
 use flashrules::layout::INFO_LENGTH;
@@ -36,8 +36,8 @@ fn ordered(layout: Layout) -> bool
     let mut lo: usize = 0;
     let mut k = 0;
     while k < layout.count {
-        let id = id_at(layout, k);
-        if in_order(lo, id, length_at(layout, k)) {
+        let id = wide8(layout.ids[k]);
+        if in_order(lo, id, wide16(layout.lengths[k])) {
             lo = id + 1;
             k += 1;
         } else {
@@ -55,7 +55,7 @@ fn size(layout: Layout) -> usize
     let mut sum: usize = 0;
     let mut k = 0;
     while k < layout.count {
-        sum += length_at(layout, k);
+        sum += wide16(layout.lengths[k]);
         k += 1;
     }
     sum

@@ -1,16 +1,21 @@
 // The bench cases of document 01, run: for each the answers of the compiled code, and whether they are those of the table. What is handed to
 // the code is required to be a case of the table in crate `casetable`, which is proved of the rules.
 mod bench;
+mod parameter;
 mod session;
 mod text;
 mod value;
 
+use crate::parameter::get_parameter;
+use crate::parameter::set_parameter;
 use crate::session::session;
 use crate::value::change;
 use crate::value::lookup;
 use crate::value::sum;
 use gaugerules::state::BOOT_OPEN;
 use gaugerules::state::BOOT_SEALED;
+use parameterrules::kind::I8;
+use parameterrules::kind::U16;
 
 // Cases that are one call.
 fn values() {
@@ -86,7 +91,16 @@ fn sessions() {
     );
 }
 
+// Cases that set or read a parameter.
+fn parameters() {
+    set_parameter(12, b"P11", 31, U16, 0, 65535, 0x1234, 12, 0, b"");
+    set_parameter(13, b"P11", 30, U16, 0, 65535, 0x1234, 0, 30, &[0x12, 0x34]);
+    set_parameter(14, b"P12", 0, I8, -128, 127, -128, 0, 0, &[0x80]);
+    get_parameter(15, b"P12", 0x80, 0, I8, -128, 127, -128);
+}
+
 fn main() {
     values();
     sessions();
+    parameters();
 }

@@ -17,6 +17,9 @@ use Rattle.gaugerules.specs.State.{loadedOf}
 use Rattle.gaugerules.specs.Write.{commit, writeAt, writeByte, writeBytes, badSpan, callError, write}
 use Rattle.gaugerules.specs.Read.{readAt, readByte, readBytes, readError, read}
 use Rattle.gaugerules.specs.Script.{reply, afterCall}
+use Rattle.parameterrules.specs.Integer.{toBytes, fromBytes, fitsIn}
+use Rattle.parameterrules.specs.Kind.{widthOf, isSigned, holds as holdsInteger}
+use Rattle.parameterrules.specs.Parameter.{valid as validParameter, inRange as inParameterRange, getError, setError, valueIn, get, set}
 use Rattle.scriptrules.specs.Parser.{isDigit, isWhole, withDigit, withCharacter, feedByte, endError, parseScript}
 use Rattle.scriptrules.specs.Reply.{replyText, afterFrame}
 use Rattle.scriptrules.specs.Replay.{replay}
@@ -24,7 +27,7 @@ use Rattle.casetable.specs.Cases.{passes, every, CasesHold}
 use Rattle.casetable.specs.Session.{SessionHolds}
 
 computed : CasesHold × SessionHolds
-unfolding passes every classes validLayout fits findClass findBlock blockExists blockBytes storeBlock asLoaded inRange valid registerOf isKey keyWord obey setClass loadBlock selectBlock isProtected editError edit commitError committed setControl outcome loadedOf commit writeAt writeByte writeBytes badSpan callError write readAt readByte readBytes readError read reply afterCall indexOf indexAfter digit value line blockLines serializeImage width addLine candidate holds parseImage isDigit isWhole withDigit withCharacter feedByte endError parseScript replyText afterFrame replay
+unfolding passes every classes validLayout fits findClass findBlock blockExists blockBytes storeBlock asLoaded inRange valid registerOf isKey keyWord obey setClass loadBlock selectBlock isProtected editError edit commitError committed setControl outcome loadedOf commit writeAt writeByte writeBytes badSpan callError write readAt readByte readBytes readError read reply afterCall indexOf indexAfter digit value line blockLines serializeImage width addLine candidate holds parseImage isDigit isWhole withDigit withCharacter feedByte endError parseScript replyText afterFrame replay toBytes fromBytes fitsIn widthOf isSigned holdsInteger validParameter inParameterRange getError setError valueIn get set
 computed = (refl, refl)
 
 pub cases-hold : CasesHold

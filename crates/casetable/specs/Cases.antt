@@ -6,7 +6,10 @@ use mathlib.Core.Path.{_≡_}
 use mathlib.Core.Bool.{Bool, true, false}
 use mathlib.Core.List.{List, [], _∷_, _++_}
 use lib.Dec.{eqb}
-use lib.ListN.{getD, replicate, set}
+use lib.ListN.{getD, replicate}
+use lib.Seq.{sets}
+use lib.IntN.{ℤ, pos, negℤ}
+use lib.Signed.{leZ}
 use Rattle.checksum.specs.Checksum.{checksum, checksumAfter}
 use Rattle.flashrules.specs.Answer.{errorOf, lengthOf}
 use Rattle.flashrules.specs.Choice.{and, same}
@@ -15,6 +18,8 @@ use Rattle.flashrules.specs.Lookup.{findBlock}
 use Rattle.flashrules.specs.declared.layout.Layout.{Layout}
 use Rattle.gaugerules.specs.State.{powerOn}
 use Rattle.gaugerules.specs.Script.{Device, device}
+use Rattle.parameterrules.specs.Parameter.{get, set}
+use Rattle.parameterrules.specs.declared.parameter.Parameter.{Parameter}
 use Rattle.scriptrules.specs.Parser.{ParsedScript, script, noScript, parseScript}
 use Rattle.scriptrules.specs.Reply.{replies, afterFrames}
 use Rattle.casetable.specs.Lines.{linesText}
@@ -34,6 +39,10 @@ benchImage first = first ∷ replicate 128 0 ++ (0x14 ∷ 0x04 ∷ 0x72 ∷ 0x36
 abbrev pub benchSize : ℕ
 benchSize = 157
 
+-- a parameter of class 48: its offset, its kind, and its range
+abbrev pub benchParameter : ℕ → ℕ → ℤ → ℤ → Parameter
+benchParameter offset kind min max = record { class = 48; offset = offset; kind = kind; min = min; max = max }
+
 pub data Case : Type 0 where
   -- bytes, and their checksum
   sum : List ℕ → ℕ → Case
@@ -44,6 +53,11 @@ pub data Case : Type 0 where
   -- the image's first byte, the home at power-on, a script and its output, and the one byte of the image after it
   -- that may be another: its index and its value
   session : ℕ → ℕ → List ℕ → List ℕ → ℕ → ℕ → Case
+  -- a parameter, a value to be set, the error number, and the bytes of the image after it that may be others: the
+  -- index of the first, and their values
+  setParameter : Parameter → ℤ → ℕ → ℕ → List ℕ → Case
+  -- the image's first byte, a parameter, and the value in range that is read
+  getParameter : ℕ → Parameter → ℤ → Case
 
 -- a script, on this device, prints this output and leaves this image
 abbrev pub prints : Device → ParsedScript → List ℕ → List ℕ → Bool
@@ -58,7 +72,13 @@ passes (lookup i b e n) =
     let a = findBlock benchLayout (size benchLayout) i b in
     and (eqb (errorOf a) e ∷ eqb (lengthOf a) n ∷ [])
 passes (session first boot x output at byte) =
-    prints (device (powerOn boot) (benchImage first)) (parseScript x) output (set (benchImage first) at byte)
+    prints (device (powerOn boot) (benchImage first)) (parseScript x) output (sets (benchImage first) at (byte ∷ []))
+passes (setParameter p v e at bs) =
+    let s = set benchLayout (benchImage 0) p v in
+    and (eqb (s .answer) e ∷ same (s .lent) (sets (benchImage 0) at bs) ∷ [])
+passes (getParameter first p v) =
+    let g = get benchLayout (benchImage first) p in
+    and (eqb (g .error) 0 ∷ leZ (g .value) v ∷ leZ v (g .value) ∷ g .«in_range» ∷ [])
 
 unfoldable pub every : List Case → Bool
 every [] = true
@@ -134,6 +154,12 @@ cases =
     ∷ []))
     (linesText ((0 ∷ 1 ∷ []) ∷ (0 ∷ 2 ∷ []) ∷ (0 ∷ 0x55 ∷ replicate 31 0) ∷ (0 ∷ 2 ∷ []) ∷ (0 ∷ replicate 32 0) ∷ []))
     0 0x55
+    -- P11: "two bytes at offset 31: 12; at 30: accepted." Class 48 has both; it is the block that ends
+    ∷ setParameter (benchParameter 31 2 (pos 0) (pos 65535)) (pos 0x1234) 12 0 []
+    ∷ setParameter (benchParameter 30 2 (pos 0) (pos 65535)) (pos 0x1234) 0 30 (0x12 ∷ 0x34 ∷ [])
+    -- P12: "signed byte -128 is 80."
+    ∷ setParameter (benchParameter 0 0x81 (negℤ (pos 128)) (pos 127)) (negℤ (pos 128)) 0 0 (0x80 ∷ [])
+    ∷ getParameter 0x80 (benchParameter 0 0x81 (negℤ (pos 128)) (pos 127)) (negℤ (pos 128))
     ∷ []
 
 abbrev pub CasesHold : Type 0

@@ -1,23 +1,23 @@
 -- Laws of the blocks of an image: their bytes as loaded, and what a store leaves, in the block and elsewhere.
 use Prim.Native.Nat.{ℕ, _+_, _-_, _≤_, _<_}
 use mathlib.Core.Path.{_≡_, sym, ap, _∙_}
-use mathlib.Core.Logic.{_⊎_, ⊎-elim}
-use mathlib.Core.List.{List, [], _++_, append-assoc}
+use mathlib.Core.List.{List, [], _++_}
 use native.Mathlib.Nat.{add-sub-cancel-left}
 use native.Mathlib.Numerals.{add-one}
 use native.Mathlib.Omega.{arith}
 use lib.Dec.{ltb}
-use lib.ListN.{length, take, drop, getD, set, length-take, length-drop, length-append, length-replicate, List·getD-append}
-use lib.Seq.{paste, paste-suc, length-paste, length-take-le, take-at, drop-at, getD-append-add, getD-take, getD-drop, ext-getD, length-paste-head}
+use lib.ListN.{length, take, drop, getD, set, replicate, length-append, length-replicate}
+use lib.Seq.{paste, paste-suc, sets, length-paste}
 use borrow.Author.Tests.{ltb-true, ltb-false}
 use Rattle.checksum.proofs.ChecksumLaws.{total-append, total-zeros}
 use Rattle.flashrules.specs.Answer.{lengthOf}
 use Rattle.flashrules.specs.Lookup.{blockSize, findBlock}
 use Rattle.flashrules.specs.Image.{blockBytes, asLoaded, storeBlock}
-use Rattle.flashrules.specs.Laws.{ChecksumLoaded, BlockLength, BlockEmpty, LoadedLength, StoreLength, StoreHere, Within, StoreOutside, StoreElsewhere}
+use Rattle.flashrules.specs.Laws.{ChecksumLoaded, BlockLength, BlockEmpty, LoadedLength, StoreLength, StoreHere, Within, StoreOutside, StoreElsewhere, StoreEdited}
 use Rattle.flashrules.specs.declared.layout.Layout.{Layout}
 use Rattle.flashrules.specs.declared.lookup.Lookup.{Lookup}
 use Rattle.flashrules.proofs.Picks.{on-test, on-answer}
+use Rattle.flashrules.proofs.PartLaws.{part-length, part-paste, paste-below, paste-above, part-apart, paste-sets, paste-self}
 use Rattle.flashrules.proofs.LookupLaws.{block-inside, blocks-apart, refused-number}
 
 -- the loop that copies a window into an image: `e` is its invariant
@@ -34,42 +34,6 @@ module _ (f f₀ w : List ℕ) (at k n : ℕ) (lw : length w ≡ blockSize) (mos
 -- the part that `&image[s..s + k]` is
 pub part-is : (f : List ℕ) (s k : ℕ) → take (s + k - s) (drop s f) ≡ take k (drop s f)
 part-is f s k = ap (λ (n : ℕ). take n (drop s f)) (add-sub-cancel-left s k)
-
--- ---- a part, and a list that is pasted into another
-
-part-length : (f : List ℕ) (s k : ℕ) → s + k ≤ length f → length (take k (drop s f)) ≡ k
-part-length f s k h = simp (length-take, length-drop) (omega arith)
-
-module _ (f w : List ℕ) (at n : ℕ) (end : at + n ≤ length f) (most : n ≤ length w) where
-  part-paste : take n (drop at (paste f at w n)) ≡ take n w
-  part-paste =
-      rw (append-assoc, drop-at (take at f) (take n w ++ drop (at + n) f) at (length-take-le at f (omega arith)))
-      (take-at (take n w) (drop (at + n) f) n (length-take-le n w most))
-
-  paste-below : (j : ℕ) → j < at → getD (paste f at w n) j 0 ≡ getD f j 0
-  paste-below j h =
-      let q : length (take at f) ≡ at = length-take-le at f (omega arith) in
-      rw (append-assoc, List·getD-append (take at f) (take n w ++ drop (at + n) f) 0 j (omega arith)) (getD-take at f j 0 h)
-
-  paste-above : (j : ℕ) → at + n ≤ j → getD (paste f at w n) j 0 ≡ getD f j 0
-  paste-above j h =
-      let q : length (take at f ++ take n w) ≡ at + n = length-paste-head f at w n (omega arith) most in
-      let e : j ≡ length (take at f ++ take n w) + (j - (at + n)) = omega arith in
-      let e′ : at + n + (j - (at + n)) ≡ j = omega arith in
-      ap (λ (m : ℕ). getD (paste f at w n) m 0) e ∙ getD-append-add (take at f ++ take n w) (drop (at + n) f) (j - (at + n)) 0
-      ∙ getD-drop (at + n) f (j - (at + n)) 0 ∙ ap (λ (m : ℕ). getD f m 0) e′
-
-  -- a part that lies apart from what was pasted
-  part-apart : (s k : ℕ) → s + k ≤ length f → (at + n ≤ s) ⊎ (s + k ≤ at) → take k (drop s (paste f at w n)) ≡ take k (drop s f)
-  part-apart s k h apart = ext-getD 0 _ _ (same ∙ sym (part-length f s k h)) (λ j g. at-j j (omega (arith, same)))
-    where
-      same : length (take k (drop s (paste f at w n))) ≡ k
-      same = part-length (paste f at w n) s k (omega (arith, length-paste f at w n end most))
-
-      at-j : (j : ℕ) → j < k → getD (take k (drop s (paste f at w n))) j 0 ≡ getD (take k (drop s f)) j 0
-      at-j j g =
-          rw (getD-take k (drop s (paste f at w n)) j 0 g, getD-take k (drop s f) j 0 g, getD-drop s (paste f at w n) j 0, getD-drop s f j 0)
-          (⊎-elim (λ (d : at + n ≤ s). paste-above (s + j) (omega arith)) (λ (d : s + k ≤ at). paste-below (s + j) (omega arith)) apart)
 
 -- ---- the claims. Each goes by the answer of the lookup
 
@@ -175,3 +139,14 @@ store-outside = stored-outside
 
 pub store-elsewhere : StoreElsewhere
 store-elsewhere = stored-elsewhere
+
+pub store-edited : StoreEdited
+unfolding storeBlock blockBytes asLoaded
+store-edited l image i b s k p o bs h =
+    let full = loaded-length l image i b in
+    let inside = block-inside l (length image) i b s k p in
+    let zs : List ℕ = replicate (blockSize - length (take k (drop s image))) 0 in
+    let long : k ≤ length (take k (drop s image) ++ zs) = omega (arith, inside .most, rw p at full) in
+    rw p
+    (paste-sets image s k (inside .end) (take k (drop s image) ++ zs) bs o long h
+    ∙ ap (λ (d : List ℕ). sets d (s + o) bs) (paste-self image s k (inside .end) zs))

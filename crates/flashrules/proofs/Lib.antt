@@ -1,5 +1,6 @@
 pub mod BytesLaws
 pub mod DifferingLaws
+pub mod PartLaws
 pub mod ImageLaws
 pub mod Laws
 pub mod LayoutLaws

@@ -41,6 +41,18 @@ invalidControl = 9
 abbrev pub malformed : ℕ
 malformed = 10
 
+-- 11: "parameter row not sound"
+abbrev pub invalidParameter : ℕ
+invalidParameter = 11
+
+-- 12: "parameter leaves its class or crosses a block's end"
+abbrev pub misplacedParameter : ℕ
+misplacedParameter = 12
+
+-- 13: "value to be set is outside its row's range"
+abbrev pub outOfRange : ℕ
+outOfRange = 13
+
 -- 14: "lent room shorter than the answer"
 abbrev pub shortBuffer : ℕ
 shortBuffer = 14

@@ -6,6 +6,7 @@ use mathlib.Core.Logic.{_⊎_, _↔_}
 use mathlib.Core.Bool.{Bool, true, false}
 use mathlib.Core.List.{List, [], _++_}
 use lib.ListN.{length, getD, take}
+use lib.Seq.{sets}
 use Rattle.checksum.specs.Checksum.{checksum}
 use Rattle.flashrules.specs.Refusal.{firstError, NoneHolds, Numbered}
 use Rattle.flashrules.specs.Choice.{differing}
@@ -117,6 +118,14 @@ StoreElsewhere =
     (l : Layout) (image : List ℕ) (i b : ℕ) (w : List ℕ) → length w ≡ blockSize → (i′ b′ : ℕ)
     → ((i ≡ i′) × (b ≡ b′) → ⊥)
     → blockBytes l (storeBlock l image i b w) i′ b′ ≡ blockBytes l image i′ b′
+
+-- a block as loaded, with bytes put in its window from byte o on, and stored: the image has them there, and is else
+-- what it was
+abbrev pub StoreEdited : Type 0
+StoreEdited =
+    (l : Layout) (image : List ℕ) (i b s k : ℕ) → findBlock l (length image) i b ≡ Lookup.Found s k
+    → (o : ℕ) (bs : List ℕ) → o + length bs ≤ k
+    → storeBlock l image i b (sets (asLoaded (blockBytes l image i b)) o bs) ≡ sets image (s + o) bs
 
 -- ---- blocks that every valid layout has
 

@@ -24,6 +24,14 @@ pub const INVALID_CONTROL: u8 = 9;
 // A file, a script or a layout breaks its rules, or an image has another length than its layout.
 pub const MALFORMED: u8 = 10;
 
+pub const INVALID_PARAMETER: u8 = 11;
+
+// A parameter whose bytes leave its class or cross a block's end.
+pub const MISPLACED_PARAMETER: u8 = 12;
+
+// A value to be set that its parameter's range has not.
+pub const OUT_OF_RANGE: u8 = 13;
+
 // The lent buffer is shorter than the answer.
 pub const SHORT_BUFFER: u8 = 14;
 

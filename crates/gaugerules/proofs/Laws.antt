@@ -9,3 +9,4 @@ pub use Rattle.gaugerules.proofs.ReadLaws.{read-refused, read-accepted}
 pub use Rattle.gaugerules.proofs.SameLayouts.{same-valid, same-write, same-read}
 pub use Rattle.gaugerules.proofs.KeyLaws.{unseals-by-key}
 pub use Rattle.gaugerules.proofs.Noninterference.{sealed-noninterference, noninterference}
+pub use Rattle.gaugerules.proofs.BlockAccessLaws.{select-flash, select-block, read-block, write-block}

@@ -1,6 +1,7 @@
 pub mod Laws
 pub mod RegisterLaws
 pub mod LoadedLaws
+pub mod BlockAccessLaws
 pub mod ByteCases
 pub mod RunLaws
 pub mod ByteLaws

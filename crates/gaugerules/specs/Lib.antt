@@ -8,4 +8,5 @@ pub mod Read
 pub mod Script
 pub mod Table
 pub mod Laws
+pub mod BlockAccess
 pub mod Noninterference

@@ -46,6 +46,11 @@ unfoldable pub afterCall : Layout → Device → Call → Device
 afterCall l d (toWrite r bytes) = let w = write l (d .image) (d .gauge) r bytes in device (w .answer .gauge) (w .lent)
 afterCall l d (toRead r n buffer) = d
 
+-- calls one after the other
+unfoldable pub afterCalls : Layout → Device → List Call → Device
+afterCalls l d [] = d
+afterCalls l d (c ∷ cs) = afterCalls l (afterCall l d c) cs
+
 -- 01: "A write opens a sealed gauge when that gauge is no longer sealed after it, even if a later byte of it is
 -- refused."
 unfoldable pub unseals : Layout → Device → Call → Bool

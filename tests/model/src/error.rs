@@ -1,4 +1,4 @@
-//! 01, "Numbers of the refusals": those that a lookup, a file or a transaction can give.
+//! 01, "Numbers of the refusals": those that a lookup, a file, a transaction or the parameter desk can give.
 
 #[derive(Clone, Copy, Debug, PartialEq, Eq)]
 #[repr(u8)]
@@ -23,6 +23,12 @@ pub enum Error {
     Control = 9,
     /// "file or layout breaks its rules, or image length differs from it"
     Invalid = 10,
+    /// "parameter row not sound"
+    Parameter = 11,
+    /// "parameter leaves its class or crosses a block's end"
+    Place = 12,
+    /// "value to be set is outside its row's range"
+    Range = 13,
     /// "lent room shorter than the answer"
     Buffer = 14,
     /// "record not sound"

@@ -1,11 +1,12 @@
-//! An independent model of document 01, "Build description and exact rules": layout, image file, gauge and replay program.
-//! It is written from that paper alone and puts simplicity first: each call judges everything anew. Comments quote the
-//! sentence that a rule follows.
+//! An independent model of document 01, "Build description and exact rules": layout, image file, gauge, parameters and replay
+//! program. It is written from that paper alone and puts simplicity first: each call judges everything anew. Comments quote
+//! the sentence that a rule follows.
 
 pub mod error;
 pub mod gauge;
 pub mod imagefile;
 pub mod layout;
+pub mod parameter;
 pub mod record;
 pub mod replay;
 pub mod script;

@@ -6,15 +6,14 @@ mod badscripts;
 mod cases;
 mod damage;
 mod draft;
-mod flash;
 mod images;
 mod moves;
 mod program;
-mod random;
 mod scripts;
 mod tally;
 
 use cases::{case, kind_of, Expect, KINDS};
+use generator::{flash, random};
 use model::replay::replay;
 use program::Ending;
 use std::error::Error;

@@ -1,0 +1,67 @@
+// Why a parameter is refused: 10, 11, 4, 12, and 13 where a value is to be set; 0 where it is not.
+use crate::valid::in_range;
+use crate::valid::valid;
+use flashrules::error::INVALID_PARAMETER;
+use flashrules::error::MALFORMED;
+use flashrules::error::MISPLACED_PARAMETER;
+use flashrules::error::OUT_OF_RANGE;
+use flashrules::error::UNKNOWN_CLASS;
+use flashrules::layout::Layout;
+use flashrules::lookup::BLOCK_SIZE;
+use flashrules::lookup::Lookup;
+use integers::kind::width;
+use layout::lookup::find_class;
+use layout::valid::fits;
+use parameterrules::parameter::Parameter;
+ghost use mathlib.Core.Path.{_≡_};
+ghost use mathlib.Core.List.{[], _∷_};
+ghost use Prim.Native.Nat.{_+_, _%_};
+ghost use lib.Dec.{ltb};
+ghost use Rattle.flashrules.specs.Error.{misplacedParameter};
+ghost use Rattle.flashrules.specs.Refusal.{firstError};
+ghost use Rattle.parameterrules.specs.Kind.{widthOf};
+ghost use Rattle.parameterrules.specs.Parameter.{crossesBlock, getError, setError};
+
+// Whether its bytes leave its class, which has so many, or cross a block's end.
+fn place_error(parameter: Parameter, class_len: usize) -> u8
+    ensures { λ r. ⌜ r ≡ firstError ((ltb «class_len» (parameter .offset + widthOf (parameter .kind)), misplacedParameter) ∷ (crossesBlock parameter, misplacedParameter) ∷ []) ⌝ }
+{
+    let offset = parameter.offset as usize;
+    let size = width(parameter.kind);
+    if class_len < offset + size {
+        return MISPLACED_PARAMETER;
+    }
+    if BLOCK_SIZE < offset % BLOCK_SIZE + size {
+        return MISPLACED_PARAMETER;
+    }
+    0
+}
+
+// Of an image of so many bytes.
+pub fn get_error(layout: Layout, image_len: usize, parameter: Parameter) -> u8
+    ensures { λ r. ⌜ r ≡ getError layout «image_len» parameter ⌝ }
+{
+    if fits(layout, image_len) {
+        if valid(parameter) {
+            let Lookup::Found { start, len } = find_class(layout, parameter.class) else {
+                return UNKNOWN_CLASS;
+            };
+            return place_error(parameter, len);
+        }
+        return INVALID_PARAMETER;
+    }
+    MALFORMED
+}
+
+pub fn set_error(layout: Layout, image_len: usize, parameter: Parameter, value: i64) -> u8
+    ensures { λ r. ⌜ r ≡ setError layout «image_len» parameter value ⌝ }
+{
+    let error = get_error(layout, image_len, parameter);
+    if error == 0 {
+        if in_range(parameter, value) {
+            return 0;
+        }
+        return OUT_OF_RANGE;
+    }
+    error
+}

@@ -1,0 +1,5 @@
+pub mod Laws
+pub mod IntegerLaws
+pub mod PlaceLaws
+pub mod ParameterLaws
+pub mod GaugeLaws

@@ -1,0 +1,113 @@
+-- What the rules of integers and parameters amount to, claim by claim. proofs/Laws.antt has a proof of each, under its
+-- name in small letters.
+use Prim.Native.Nat.{ℕ, suc, _+_, _/_, _%_, _^_, _≤_, _<_}
+use mathlib.Core.Path.{_≡_}
+use mathlib.Core.Logic.{_⊎_}
+use mathlib.Core.Bool.{Bool, true}
+use mathlib.Core.List.{List, [], _∷_}
+use lib.ListN.{length, getD, take, drop}
+use lib.Seq.{sets}
+use lib.IntN.{ℤ, pos, negsuc}
+use Rattle.checksum.specs.Checksum.{checksum}
+use Rattle.flashrules.specs.Outcome.{outcome}
+use Rattle.flashrules.specs.Lookup.{blockSize}
+use Rattle.flashrules.specs.Image.{maxByte, Bytes, blockBytes, asLoaded}
+use Rattle.flashrules.specs.declared.layout.Layout.{Layout}
+use Rattle.gaugerules.specs.State.{bootOpen, controlFlash, powerOn}
+use Rattle.gaugerules.specs.Register.{dataFlashClass, blockData, blockDataChecksum, blockDataControl}
+use Rattle.gaugerules.specs.Script.{device, Call, toWrite, afterCalls}
+use Rattle.parameterrules.specs.Integer.{unsigned, toBytes, fromBytes, fitsIn}
+use Rattle.parameterrules.specs.Kind.{widthOf}
+use Rattle.parameterrules.specs.Parameter.{startIn, parameterValue, get, set}
+use Rattle.parameterrules.specs.declared.parameter.Parameter.{Parameter}
+
+-- ---- integers in bytes, of every width, signed or not
+
+abbrev pub ToBytesLength : Type 0
+ToBytesLength = (width : ℕ) (v : ℤ) → length (toBytes width v) ≡ width
+
+abbrev pub ToBytesBytes : Type 0
+ToBytesBytes = (width : ℕ) (v : ℤ) → Bytes (toBytes width v)
+
+-- value to bytes to value
+abbrev pub ToFromBytes : Type 0
+ToFromBytes =
+    (signed : Bool) (width : ℕ) (v : ℤ) → fitsIn signed width v ≡ true → fromBytes signed (toBytes width v) ≡ v
+
+-- bytes to value to bytes
+abbrev pub FromToBytes : Type 0
+FromToBytes = (signed : Bool) (bs : List ℕ) → Bytes bs → toBytes (length bs) (fromBytes signed bs) ≡ bs
+
+-- what is read fits
+abbrev pub FromBytesFits : Type 0
+FromBytesFits =
+    (signed : Bool) (bs : List ℕ) → Bytes bs → 1 ≤ length bs → fitsIn signed (length bs) (fromBytes signed bs) ≡ true
+
+-- the bytes of n are n to the base 256
+abbrev pub UnsignedBytes : Type 0
+UnsignedBytes = (width n : ℕ) → n < 256 ^ width → unsigned (toBytes width (pos n)) ≡ n
+
+-- and those of -(n + 1) are that much less than the power: two's complement
+abbrev pub TwosComplement : Type 0
+TwosComplement = (width n : ℕ) → n < 256 ^ width → unsigned (toBytes width (negsuc n)) + suc n ≡ 256 ^ width
+
+-- ---- parameters
+
+-- "image untouched"
+abbrev pub SetRefused : Type 0
+SetRefused =
+    (l : Layout) (image : List ℕ) (p : Parameter) (v : ℤ) → let s = set l image p v in
+    (s .answer ≡ 0 → ⊥) → s .lent ≡ image
+
+-- 01: "Setting changes exactly the bytes of that row": they are the value's, and every other byte is what it was
+pub record Replaced (l : Layout) (image : List ℕ) (p : Parameter) (v : ℤ) (to : List ℕ) : Type 0 where
+  pub size : length to ≡ length image
+  pub here : take (widthOf (p .kind)) (drop (startIn l p) to) ≡ toBytes (widthOf (p .kind)) v
+  pub outside : (j : ℕ) → (j < startIn l p) ⊎ (startIn l p + widthOf (p .kind) ≤ j) → getD to j 0 ≡ getD image j 0
+
+abbrev pub SetReplaces : Type 0
+SetReplaces =
+    (l : Layout) (image : List ℕ) (p : Parameter) (v : ℤ) → let s = set l image p v in
+    s .answer ≡ 0 → Replaced l image p v (s .lent)
+
+-- what was set is read, and in range
+abbrev pub SetThenGet : Type 0
+SetThenGet =
+    (l : Layout) (image : List ℕ) (p : Parameter) (v : ℤ) → let s = set l image p v in
+    s .answer ≡ 0 → get l (s .lent) p ≡ parameterValue 0 v true
+
+-- what was read in range can be set, and changes nothing
+abbrev pub GetThenSet : Type 0
+GetThenSet =
+    (l : Layout) (image : List ℕ) (p : Parameter) → let g = get l image p in
+    Bytes image → g .error ≡ 0 → g .«in_range» ≡ true → set l image p (g .value) ≡ outcome 0 image
+
+-- a parameter whose bytes lie elsewhere reads as before
+abbrev pub SetElsewhere : Type 0
+SetElsewhere =
+    (l : Layout) (image : List ℕ) (p q : Parameter) (v : ℤ) → let s = set l image p v in
+    s .answer ≡ 0
+    → (startIn l q + widthOf (q .kind) ≤ startIn l p) ⊎ (startIn l p + widthOf (p .kind) ≤ startIn l q)
+    → get l (s .lent) q ≡ get l image q
+
+-- ---- through the gauge
+
+-- what a programmer sends to set bytes of a block: 0 to 0x61, class and block to 0x3E, the bytes to 0x40 on, and the
+-- checksum of the window then
+abbrev pub blockCalls : Layout → List ℕ → ℕ → ℕ → ℕ → List ℕ → List Call
+blockCalls l image i b o bs =
+    toWrite blockDataControl (controlFlash ∷ [])
+    ∷ toWrite dataFlashClass (i ∷ b ∷ [])
+    ∷ toWrite (blockData + o) bs
+    ∷ toWrite blockDataChecksum (checksum (sets (asLoaded (blockBytes l image i b)) o bs) ∷ [])
+    ∷ []
+
+-- 01: "the image becomes what a full access gauge leaves that loads the block, writes them and commits"
+abbrev pub SetByGauge : Type 0
+SetByGauge =
+    (l : Layout) (image : List ℕ) (p : Parameter) (v : ℤ) → let s = set l image p v in
+    Bytes image → p .class ≤ maxByte → s .answer ≡ 0
+    → afterCalls l (device (powerOn bootOpen) image)
+    (blockCalls l image (p .class) (p .offset / blockSize) (p .offset % blockSize) (toBytes (widthOf (p .kind)) v))
+    .image
+    ≡ s .lent

@@ -1,0 +1,4 @@
+pub mod Integer
+pub mod Kind
+pub mod Parameter
+pub mod Laws

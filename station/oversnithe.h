@@ -1,0 +1,77 @@
+/*
+ * Oversnithe's functions for C: link libstation.a, which `rt staticlib station` proves and writes to target/staticlib.
+ *
+ * Every call answers every argument. Nothing is kept, allocated or shared between calls, so that calls on different
+ * images may run side by side. Bytes are lent as a pointer and a length for the time of the call; a null pointer with
+ * length 0 is no bytes. An error is document 01's number, 0 where there is none.
+ */
+#ifndef OVERSNITHE_H
+#define OVERSNITHE_H
+
+#include <stdbool.h>
+#include <stddef.h>
+#include <stdint.h>
+
+#ifdef __cplusplus
+extern "C" {
+#endif
+
+#define OVERSNITHE_MAX_CLASSES 32
+
+/*
+ * The classes of an image in the order of their bytes: identifier and length of each. Only the first `count` entries mean
+ * anything.
+ */
+typedef struct {
+    size_t count;
+    uint8_t ids[OVERSNITHE_MAX_CLASSES];
+    uint16_t lengths[OVERSNITHE_MAX_CLASSES];
+} oversnithe_layout;
+
+/* Kinds of a parameter: unsigned, or signed in two's complement. Any other number is no kind. */
+#define OVERSNITHE_U8 0x01
+#define OVERSNITHE_U16 0x02
+#define OVERSNITHE_U32 0x04
+#define OVERSNITHE_I8 0x81
+#define OVERSNITHE_I16 0x82
+#define OVERSNITHE_I32 0x84
+
+/*
+ * A parameter: the class and the offset of its first byte, its kind, and the least and the greatest value in range. It is
+ * valid if min is at most max and both fit the kind.
+ */
+typedef struct {
+    uint8_t class_id;
+    uint16_t offset;
+    uint8_t kind;
+    int64_t min;
+    int64_t max;
+} oversnithe_parameter;
+
+/* What reading one answers; refused, the value is 0 and not in range. */
+typedef struct {
+    uint8_t error;
+    int64_t value;
+    bool in_range;
+} oversnithe_parameter_value;
+
+/*
+ * The value of a parameter, most significant byte first, and whether it is in range. Errors, in this order: 10 the layout
+ * is invalid or the image has another length, 11 the parameter is invalid, 4 its class is not in the layout, 12 its bytes
+ * leave the class or cross the end of a block of 32 bytes.
+ */
+oversnithe_parameter_value oversnithe_parameter_get(oversnithe_layout layout, const uint8_t *image, size_t length,
+                                                    oversnithe_parameter parameter);
+
+/*
+ * Sets a parameter to a value, and answers the error: those above, then 13 where the value is not in range. The image's
+ * bytes of that parameter become the value's, and no other byte changes; refused, none does.
+ */
+uint8_t oversnithe_parameter_set(oversnithe_layout layout, uint8_t *image, size_t length, oversnithe_parameter parameter,
+                                 int64_t value);
+
+#ifdef __cplusplus
+}
+#endif
+
+#endif

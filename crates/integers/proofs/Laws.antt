@@ -16,7 +16,7 @@ use lib.IntN.{ℤ, pos}
 use lib.Signed.{mag}
 use mir.Syntax.{w8, w64}
 use mir.Val.{Fits}
-use Rattle.parameterrules.specs.Integer.{invertIf, bigEndian, magnitude, isNegative, integer, toBytes, signOf, fromBytes, fitsIn}
+use Rattle.parameterrules.specs.Integer.{invertIf, bigEndian, magnitudeOf, isNegative, integer, toBytes, signOf, fromBytes, fitsIn}
 use Rattle.parameterrules.specs.Kind.{maxWidth, widthOf, isSigned, holds}
 
 -- ---- weights
@@ -61,23 +61,23 @@ module _ (neg : Bool) (bytes to : List ℕ) (i rest : ℕ) where
 -- ---- digits are read
 
 module _ (neg : Bool) (bytes : List ℕ) (i sum total : ℕ) where
-  one-read : (k : ℕ) → i + suc k ≤ length bytes → sum + magnitude neg (take (suc k) (drop i bytes)) ≡ total
-      → (sum + invertIf neg (getD bytes i 0) * 256 ^ k) + magnitude neg (take k (drop (i + 1) bytes)) ≡ total
+  one-read : (k : ℕ) → i + suc k ≤ length bytes → sum + magnitudeOf neg (take (suc k) (drop i bytes)) ≡ total
+      → (sum + invertIf neg (getD bytes i 0) * 256 ^ k) + magnitudeOf neg (take k (drop (i + 1) bytes)) ≡ total
   one-read k h e =
       let g : i < length bytes = omega arith in
       let l : length (take k (drop (i + 1) bytes)) ≡ k = simp (length-take, length-drop) (omega arith) in
       let q = rw (drop-cons bytes i 0 g, ← add-one i, l) at e in
       omega (arith, q)
 
-  pub read-turn : (k width d r : ℕ) → sum + magnitude neg (take k (drop i bytes)) ≡ total → 0 < k
+  pub read-turn : (k width d r : ℕ) → sum + magnitudeOf neg (take k (drop i bytes)) ≡ total → 0 < k
       → i + k ≡ width → width ≤ maxWidth → length bytes ≡ maxWidth → d ≡ invertIf neg (getD bytes i 0) → r ≡ d * 256 ^ (k - 1)
-      → (sum + r) + magnitude neg (take (k - 1) (drop (i + 1) bytes)) ≡ total
+      → (sum + r) + magnitudeOf neg (take (k - 1) (drop (i + 1) bytes)) ≡ total
   read-turn zero width d r e h p l m f g = absurd (omega arith)
   read-turn (suc k) width d r e h p l m f g =
       let s : suc k - 1 ≡ k = omega arith in
       rw (g, f, s) (one-read k (omega arith) e)
 
-  pub read-end : (k : ℕ) → sum + magnitude neg (take k (drop i bytes)) ≡ total → k ≤ 0 → sum ≡ total
+  pub read-end : (k : ℕ) → sum + magnitudeOf neg (take k (drop i bytes)) ≡ total → k ≤ 0 → sum ≡ total
   read-end zero e h = omega (arith, e)
   read-end (suc k) e h = absurd (omega arith)
 
@@ -98,7 +98,7 @@ module _ (bytes : List ℕ) (kind width : ℕ) (p : width ≡ widthOf kind) wher
   from-none z = rw (← p, z, no-sign (isSigned kind))
 
   pub from-some : (signed neg : Bool) (n : ℕ) (v : ℤ) → (width ≡ 0 → ⊥) → signed ≡ isSigned kind → neg ≡ signOf signed (getD bytes 0 0)
-      → n ≡ magnitude neg (take width bytes) → v ≡ integer neg n → v ≡ fromBytes (isSigned kind) (take (widthOf kind) bytes)
+      → n ≡ magnitudeOf neg (take width bytes) → v ≡ integer neg n → v ≡ fromBytes (isSigned kind) (take (widthOf kind) bytes)
   unfolding fromBytes
   from-some signed neg n v z s b m e =
       let first : getD (take width bytes) 0 0 ≡ getD bytes 0 0 = getD-take width bytes 0 0 (omega arith) in

@@ -12,7 +12,7 @@ ghost use mathlib.Core.Path.{_≡_};
 ghost use Prim.Native.Nat.{_^_, _≤_, _<_};
 ghost use lib.ListN.{take, replicate};
 ghost use lib.Seq.{sets};
-ghost use Rattle.parameterrules.specs.Integer.{bigEndian, magnitude, toBytes, signOf, fromBytes};
+ghost use Rattle.parameterrules.specs.Integer.{bigEndian, magnitudeOf, toBytes, signOf, fromBytes};
 ghost use Rattle.parameterrules.specs.Kind.{maxWidth, widthOf, isSigned};
 
 // The lowest digits of n, so many, then zeros.
@@ -44,7 +44,7 @@ pub fn to_bytes(kind: u8, value: i64) -> [u8; MAX_WIDTH]
 // The number whose digits the first bytes are, so many.
 fn magnitude_of(negative: bool, width: usize, bytes: [u8; MAX_WIDTH]) -> u64
     requires { ⌜ width ≤ maxWidth ⌝ }
-    ensures { λ r. ⌜ (r ≡ magnitude negative (take width bytes)) × (r < 2 ^ 63) ⌝ }
+    ensures { λ r. ⌜ (r ≡ magnitudeOf negative (take width bytes)) × (r < 2 ^ 63) ⌝ }
 {
     let mut sum: u64 = 0;
     let mut i = 0;

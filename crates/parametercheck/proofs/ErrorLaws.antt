@@ -4,7 +4,6 @@ use mathlib.Core.Path.{_≡_, refl}
 use mathlib.Core.Bool.{Bool, true, false, not}
 use mathlib.Core.List.{List, [], _∷_}
 use native.Mathlib.Omega.{arith}
-use lib.Dec.{ltb}
 use lib.IntN.{ℤ}
 use lib.Signed.{leZ}
 use borrow.Author.Needs.{sfits-of}
@@ -19,7 +18,7 @@ use Rattle.flashrules.specs.declared.layout.Layout.{Layout}
 use Rattle.flashrules.specs.declared.lookup.Lookup.{Lookup}
 use Rattle.flashrules.proofs.RefusalLaws.{error-first, error-behind}
 use Rattle.parameterrules.specs.Kind.{widthOf, holds}
-use Rattle.parameterrules.specs.Parameter.{valid, inRange, crossesBlock, getTests, getError, setError}
+use Rattle.parameterrules.specs.Parameter.{valid, inRange, placeTests, getTests, getError, setError}
 use Rattle.parameterrules.specs.declared.parameter.Parameter.{Parameter}
 
 pub ruleset back = (toZ-ofZ, sfits-of)
@@ -63,17 +62,14 @@ module _ (p : Parameter) (lo u v : ℤ) (a : lo ≡ p .min) (b : u ≡ v) where
 -- ---- errors
 
 module _ (p : Parameter) (len n : ℕ) (w : n ≡ widthOf (p .kind)) where
-  abbrev places : ℕ
-  places = firstError ((ltb len (p .offset + widthOf (p .kind)), misplacedParameter) ∷ (crossesBlock p, misplacedParameter) ∷ [])
-
-  pub leaves : len < p .offset + n → misplacedParameter ≡ places
+  pub leaves : len < p .offset + n → misplacedParameter ≡ firstError (placeTests p len)
   leaves h = rw (← w, lt-ltb len (p .offset + n) h)
 
   module _ (h : p .offset + n ≤ len) where
-    pub crosses : blockSize < p .offset % blockSize + n → misplacedParameter ≡ places
+    pub crosses : blockSize < p .offset % blockSize + n → misplacedParameter ≡ firstError (placeTests p len)
     crosses k = rw (← w, le-ltb len (p .offset + n) h, lt-ltb blockSize (p .offset % blockSize + n) k)
 
-    pub stays : p .offset % blockSize + n ≤ blockSize → 0 ≡ places
+    pub stays : p .offset % blockSize + n ≤ blockSize → 0 ≡ firstError (placeTests p len)
     stays k = rw (← w, le-ltb len (p .offset + n) h, le-ltb blockSize (p .offset % blockSize + n) k)
 
 module _ (l : Layout) (size : ℕ) (p : Parameter) (t : Bool) (f : t ≡ fits l size) where
@@ -91,9 +87,7 @@ module _ (l : Layout) (size : ℕ) (p : Parameter) (t : Bool) (f : t ≡ fits l 
       unfolding getError
       not-found e q = rw (← f, h, ← v, k, ← c, q)
 
-      pub is-found : (r start len : ℕ) → a ≡ Lookup.Found start len
-          → r ≡ firstError ((ltb len (p .offset + widthOf (p .kind)), misplacedParameter) ∷ (crossesBlock p, misplacedParameter) ∷ [])
-          → r ≡ getError l size p
+      pub is-found : (r start len : ℕ) → a ≡ Lookup.Found start len → r ≡ firstError (placeTests p len) → r ≡ getError l size p
       unfolding getError
       is-found r start len q e = rw (← f, h, ← v, k, ← c, q) e
 

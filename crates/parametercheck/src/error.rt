@@ -14,17 +14,12 @@ use layout::lookup::find_class;
 use layout::valid::fits;
 use parameterrules::parameter::Parameter;
 ghost use mathlib.Core.Path.{_≡_};
-ghost use mathlib.Core.List.{[], _∷_};
-ghost use Prim.Native.Nat.{_+_, _%_};
-ghost use lib.Dec.{ltb};
-ghost use Rattle.flashrules.specs.Error.{misplacedParameter};
 ghost use Rattle.flashrules.specs.Refusal.{firstError};
-ghost use Rattle.parameterrules.specs.Kind.{widthOf};
-ghost use Rattle.parameterrules.specs.Parameter.{crossesBlock, getError, setError};
+ghost use Rattle.parameterrules.specs.Parameter.{placeTests, getError, setError};
 
-// Whether its bytes leave its class, which has so many, or cross a block's end.
+// 12 where its bytes leave its class, which has so many, or cross a block's end.
 fn place_error(parameter: Parameter, class_len: usize) -> u8
-    ensures { λ r. ⌜ r ≡ firstError ((ltb «class_len» (parameter .offset + widthOf (parameter .kind)), misplacedParameter) ∷ (crossesBlock parameter, misplacedParameter) ∷ []) ⌝ }
+    ensures { λ r. ⌜ r ≡ firstError (placeTests parameter «class_len») ⌝ }
 {
     let offset = parameter.offset as usize;
     let size = width(parameter.kind);
@@ -37,13 +32,13 @@ fn place_error(parameter: Parameter, class_len: usize) -> u8
     0
 }
 
-// Of an image of so many bytes.
+// Why a parameter of an image of so many bytes cannot be read.
 pub fn get_error(layout: Layout, image_len: usize, parameter: Parameter) -> u8
     ensures { λ r. ⌜ r ≡ getError layout «image_len» parameter ⌝ }
 {
     if fits(layout, image_len) {
         if valid(parameter) {
-            let Lookup::Found { start, len } = find_class(layout, parameter.class) else {
+            let Lookup::Found { start: _, len } = find_class(layout, parameter.class) else {
                 return UNKNOWN_CLASS;
             };
             return place_error(parameter, len);
@@ -53,6 +48,7 @@ pub fn get_error(layout: Layout, image_len: usize, parameter: Parameter) -> u8
     MALFORMED
 }
 
+// Why it cannot be set to a value.
 pub fn set_error(layout: Layout, image_len: usize, parameter: Parameter, value: i64) -> u8
     ensures { λ r. ⌜ r ≡ setError layout «image_len» parameter value ⌝ }
 {

@@ -12,7 +12,7 @@ use lib.ListN.{length, getD}
 use lib.IntN.{ℤ, pos, negsuc}
 use lib.Signed.{mag}
 use Rattle.flashrules.specs.Image.{Bytes}
-use Rattle.parameterrules.specs.Integer.{invertIf, bigEndian, magnitude, unsigned, isNegative, integer, toBytes, signOf, fromBytes, fitsIn}
+use Rattle.parameterrules.specs.Integer.{invertIf, bigEndian, magnitudeOf, unsigned, isNegative, integer, toBytes, signOf, fromBytes, fitsIn}
 use Rattle.parameterrules.specs.Laws.{ToBytesLength, ToBytesBytes, ToFromBytes, FromToBytes, FromBytesFits, UnsignedBytes, TwosComplement}
 
 -- ---- one byte
@@ -47,7 +47,7 @@ digits-bytes neg zero n j = omega arith
 digits-bytes neg (suc k) n zero = invert-byte neg (n / 256 ^ k % 256) (omega arith)
 digits-bytes neg (suc k) n (suc j) = digits-bytes neg k (n % 256 ^ k) j
 
-magnitude-digits : (neg : Bool) (k n : ℕ) → n < 256 ^ k → magnitude neg (bigEndian neg k n) ≡ n
+magnitude-digits : (neg : Bool) (k n : ℕ) → n < 256 ^ k → magnitudeOf neg (bigEndian neg k n) ≡ n
 magnitude-digits neg zero n h = omega arith
 magnitude-digits neg (suc k) n h =
     let f : n / 256 ^ k < 256 = first-lt k n 256 (rw suc-pow at h) in
@@ -56,14 +56,14 @@ magnitude-digits neg (suc k) n h =
     let m = magnitude-digits neg k r (mod-lt n (pow-above k)) in
     rw (mod-eq-of-lt f, i, digits-length neg k r, m) (div-add-mod' n (256 ^ k))
 
-magnitude-lt : (neg : Bool) (bs : List ℕ) → Bytes bs → magnitude neg bs < 256 ^ length bs
+magnitude-lt : (neg : Bool) (bs : List ℕ) → Bytes bs → magnitudeOf neg bs < 256 ^ length bs
 magnitude-lt neg [] h = omega arith
 magnitude-lt neg (b ∷ bs) h =
     let i = invert-byte neg b (h zero) in
     let l : invertIf neg b < 256 = omega arith in
     rw suc-pow (digits-lt l (magnitude-lt neg bs (λ k. h (suc k))))
 
-digits-magnitude : (neg : Bool) (bs : List ℕ) → Bytes bs → bigEndian neg (length bs) (magnitude neg bs) ≡ bs
+digits-magnitude : (neg : Bool) (bs : List ℕ) → Bytes bs → bigEndian neg (length bs) (magnitudeOf neg bs) ≡ bs
 digits-magnitude neg [] h = refl
 digits-magnitude neg (b ∷ bs) h =
     let t : Bytes bs = λ k. h (suc k) in
@@ -100,7 +100,7 @@ pub from-to-bytes : FromToBytes
 unfolding toBytes fromBytes
 from-to-bytes signed bs h =
     let neg = signOf signed (getD bs 0 0) in
-    rw (sign-back neg (magnitude neg bs), mag-back neg (magnitude neg bs)) (digits-magnitude neg bs h)
+    rw (sign-back neg (magnitudeOf neg bs), mag-back neg (magnitudeOf neg bs)) (digits-magnitude neg bs h)
 
 -- the bound of a signed integer of k + 1 bytes
 half : (k : ℕ) → 256 ^ suc k / 2 ≡ 128 * 256 ^ k
@@ -127,7 +127,7 @@ mag-lt true width v h = let k = ltb-true (mag v) (256 ^ width / 2) h in omega ar
 mag-lt false width (pos n) h = ltb-true n (256 ^ width) h
 mag-lt false width (negsuc n) h = absurd (true≢false (sym h))
 
-magnitude-told : (signed : Bool) (width : ℕ) (v : ℤ) → fitsIn signed width v ≡ true → magnitude (isNegative v) (toBytes width v) ≡ mag v
+magnitude-told : (signed : Bool) (width : ℕ) (v : ℤ) → fitsIn signed width v ≡ true → magnitudeOf (isNegative v) (toBytes width v) ≡ mag v
 unfolding toBytes
 magnitude-told signed width v h = magnitude-digits (isNegative v) width (mag v) (mag-lt signed width v h)
 
@@ -146,7 +146,7 @@ from-bytes-fits false (b ∷ bs) h l = lt-ltb _ _ (magnitude-lt false (b ∷ bs)
 from-bytes-fits true (b ∷ bs) h l =
     let neg = leb 128 b in
     let m = magnitude-lt neg bs (λ k. h (suc k)) in
-    rw (mag-back neg (magnitude neg (b ∷ bs)), half (length bs)) (lt-ltb _ _ (digits-lt (first-below b neg refl) m))
+    rw (mag-back neg (magnitudeOf neg (b ∷ bs)), half (length bs)) (lt-ltb _ _ (digits-lt (first-below b neg refl) m))
 
 -- ---- two's complement
 

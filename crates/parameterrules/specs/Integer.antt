@@ -24,13 +24,13 @@ bigEndian neg zero n = []
 bigEndian neg (suc k) n = invertIf neg (n / 256 ^ k % 256) ∷ bigEndian neg k (n % 256 ^ k)
 
 -- the number whose digits they are
-abbrev pub magnitude : Bool → List ℕ → ℕ
-magnitude neg [] = 0
-magnitude neg (b ∷ bs) = invertIf neg b * 256 ^ length bs + magnitude neg bs
+abbrev pub magnitudeOf : Bool → List ℕ → ℕ
+magnitudeOf neg [] = 0
+magnitudeOf neg (b ∷ bs) = invertIf neg b * 256 ^ length bs + magnitudeOf neg bs
 
 -- bytes as one unsigned number
 abbrev pub unsigned : List ℕ → ℕ
-unsigned bs = magnitude false bs
+unsigned bs = magnitudeOf false bs
 
 -- ---- integers
 
@@ -50,7 +50,7 @@ abbrev pub signOf : Bool → ℕ → Bool
 signOf signed b = cond signed (leb 128 b) false
 
 unfoldable pub fromBytes : Bool → List ℕ → ℤ
-fromBytes signed bs = let neg = signOf signed (getD bs 0 0) in integer neg (magnitude neg bs)
+fromBytes signed bs = let neg = signOf signed (getD bs 0 0) in integer neg (magnitudeOf neg bs)
 
 -- 01: "both fit the kind": whether so many bytes hold an integer
 unfoldable pub fitsIn : Bool → ℕ → ℤ → Bool

@@ -41,13 +41,16 @@ inRange p v = and (leZ (p .min) v ∷ leZ v (p .max) ∷ [])
 abbrev pub classMissing : Layout → Parameter → Bool
 classMissing l p = ifFound (findClass l (p .class)) (λ s n. false) (λ e. true)
 
--- 12: "parameter leaves its class .."
-abbrev pub leavesClass : Layout → Parameter → Bool
-leavesClass l p = ltb (lengthOf (findClass l (p .class))) (p .offset + widthOf (p .kind))
+-- 12: "parameter leaves its class ..", which has so many bytes
+abbrev pub leavesClass : Parameter → ℕ → Bool
+leavesClass p len = ltb len (p .offset + widthOf (p .kind))
 
 -- ".. or crosses a block's end"
 abbrev pub crossesBlock : Parameter → Bool
 crossesBlock p = ltb blockSize (p .offset % blockSize + widthOf (p .kind))
+
+abbrev pub placeTests : Parameter → ℕ → List (Bool × ℕ)
+placeTests p len = (leavesClass p len, misplacedParameter) ∷ (crossesBlock p, misplacedParameter) ∷ []
 
 -- 10, 11, 4, 12. The image has `size` bytes
 abbrev pub getTests : Layout → ℕ → Parameter → List (Bool × ℕ)
@@ -55,9 +58,7 @@ getTests l size p =
     (not (fits l size), malformed)
     ∷ (not (valid p), invalidParameter)
     ∷ (classMissing l p, unknownClass)
-    ∷ (leavesClass l p, misplacedParameter)
-    ∷ (crossesBlock p, misplacedParameter)
-    ∷ []
+    ∷ placeTests p (lengthOf (findClass l (p .class)))
 
 unfoldable pub getError : Layout → ℕ → Parameter → ℕ
 getError l size p = firstError (getTests l size p)

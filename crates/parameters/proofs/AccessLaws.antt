@@ -1,5 +1,5 @@
 -- What the calls of the gauge give that read and write a parameter's bytes. The premises are what the callees ensure, word for word.
-use Prim.Native.Nat.{ℕ, _+_, _-_, _/_, _%_, _≤_}
+use Prim.Native.Nat.{ℕ, _+_, _-_, _/_, _≤_}
 use mathlib.Core.Path.{_≡_, refl, ap, _∙_}
 use mathlib.Core.List.{List, [], _∷_, _++_}
 use native.Mathlib.Nat.{sub-zero}
@@ -13,29 +13,32 @@ use Rattle.checksum.specs.Checksum.{checksum}
 use Rattle.flashrules.specs.Outcome.{Outcome, outcome}
 use Rattle.flashrules.specs.Layout.{maxImageLength}
 use Rattle.flashrules.specs.Lookup.{blockSize}
-use Rattle.flashrules.specs.Image.{Bytes}
+use Rattle.flashrules.specs.Image.{maxByte, Bytes}
 use Rattle.flashrules.specs.declared.layout.Layout.{Layout}
 use Rattle.flashrules.proofs.PartLaws.{part-length}
 use Rattle.gaugerules.specs.State.{bootOpen, controlFlash, powerOn}
-use Rattle.gaugerules.specs.Register.{dataFlashClass, blockData, blockDataChecksum, blockDataControl}
+use Rattle.gaugerules.specs.Register.{dataFlashClass, blockDataChecksum, blockDataControl}
 use Rattle.gaugerules.specs.Write.{written, write}
 use Rattle.gaugerules.specs.Read.{reading, read}
-use Rattle.gaugerules.specs.BlockAccess.{flashSelected, blockSelected, BlockWrites}
+use Rattle.gaugerules.specs.BlockAccess.{blockSelected}
 use Rattle.gaugerules.specs.declared.state.Gauge.{Gauge}
 use Rattle.gaugerules.specs.declared.answer.Written.{Written}
 use Rattle.gaugerules.specs.declared.answer.Reading.{Reading}
-use Rattle.gaugerules.proofs.Laws.{select-block, read-block, write-block}
 use Rattle.parameterrules.specs.Integer.{toBytes, fromBytes}
 use Rattle.parameterrules.specs.Kind.{maxWidth, widthOf, isSigned}
 use Rattle.parameterrules.specs.Parameter.{getError, setError, startIn, valueIn}
 use Rattle.parameterrules.specs.declared.parameter.Parameter.{Parameter}
-use Rattle.parameterrules.proofs.IntegerLaws.{to-bytes-length, to-bytes-bytes}
-use Rattle.parameterrules.proofs.PlaceLaws.{readable, settable, in-block, width-some, bytes-end}
-use Rattle.parameterrules.proofs.GaugeLaws.{opened}
+use Rattle.parameterrules.proofs.IntegerLaws.{to-bytes-length}
+use Rattle.parameterrules.proofs.PlaceLaws.{readable, settable, in-block, bytes-end}
+use Rattle.parameterrules.proofs.GaugeLaws.{opened, openGauge, parameter-selects, parameter-reads, parameter-writes}
+use Rattle.parameters.specs.Access.{registerFor, editWith, commitWindow, afterCommit, sent}
 
--- what a slice's type says of its elements
+-- what its type says of a byte, and of a slice's elements
+byte-of : (x : ℕ) → Fits w8 x → x ≤ maxByte
+byte-of x h = let f = h .fits in omega arith
+
 bytes-of : (image : List ℕ) → ((k : ℕ) → Fits w8 (getD image k 0)) → Bytes image
-bytes-of image h k = let f = h k .fits in omega arith
+bytes-of image h k = byte-of (getD image k 0) (h k)
 
 module _ {A B : Type 0} (a a′ : A) (b b′ : B) (e : outcome a b ≡ outcome a′ b′) where
   answered : a ≡ a′
@@ -49,26 +52,20 @@ module _ {A B : Type 0} (a a′ : A) (b b′ : B) (e : outcome a b ≡ outcome a
 pub block-byte : (l : Layout) (n : ℕ) (p : Parameter) → getError l n p ≡ 0 → Fits w8 (p .offset / blockSize)
 block-byte l n p e = let b = in-block l n p (readable l n p e) .byte in record { fits = omega arith }
 
--- a block is loaded
+-- its block is loaded
 module _ (l : Layout) (image : List ℕ) (p : Parameter) (e : getError l (length image) p ≡ 0) (h : (k : ℕ) → Fits w8 (getD image k 0))
     (hc : Fits w8 (p .class)) (g : Gauge) (q : g ≡ powerOn bootOpen) (w : Written) (image₁ : List ℕ)
     (q₁ : outcome w image₁ ≡ write l image g blockDataControl (controlFlash ∷ [])) (w₂ : Written) (image₂ : List ℕ)
     (q₂ : outcome w₂ image₂ ≡ write l image₁ (w .gauge) dataFlashClass (p .class ∷ p .offset / blockSize ∷ [])) where
-  abbrev start : Gauge
-  start = flashSelected (powerOn bootOpen)
-
-  both : outcome w₂ image₂ ≡ outcome (written 0 2 (blockSelected l image start (p .class) (p .offset / blockSize))) image
+  both : outcome w₂ image₂ ≡ outcome (written 0 2 (blockSelected l image openGauge (p .class) (p .offset / blockSize))) image
   both =
       let r = readable l (length image) p e in
-      let b = in-block l (length image) p r in
-      let o = opened l image (r .fitting) (bytes-of image h) in
-      let c = hc .fits in
-      let one : outcome w image₁ ≡ outcome (written 0 1 start) image = q₁ ∙ rw q (o .accepted) in
-      let next : w .gauge ≡ start = ap (λ (x : Written). x .gauge) (answered w _ image₁ image one) in
+      let one : outcome w image₁ ≡ outcome (written 0 1 openGauge) image = q₁ ∙ rw q (opened l image (r .fitting) (bytes-of image h) .accepted) in
+      let next : w .gauge ≡ openGauge = ap (λ (x : Written). x .gauge) (answered w _ image₁ image one) in
       let same : image₁ ≡ image = left w _ image₁ image one in
-      q₂ ∙ rw (same, next) (select-block l image start (p .class) (p .offset / blockSize) (b .start) (b .len) (o .good) (o .access) (omega arith) (b .byte) (b .found) .accepted)
+      q₂ ∙ rw (same, next) (parameter-selects l image p r (bytes-of image h) (byte-of (p .class) hc) .accepted)
 
-  pub select-gauge : w₂ .gauge ≡ blockSelected l image start (p .class) (p .offset / blockSize)
+  pub select-gauge : w₂ .gauge ≡ blockSelected l image openGauge (p .class) (p .offset / blockSize)
   select-gauge = ap (λ (x : Written). x .gauge) (answered w₂ _ image₂ image both)
 
   pub select-image : image₂ ≡ image
@@ -76,26 +73,18 @@ module _ (l : Layout) (image : List ℕ) (p : Parameter) (e : getError l (length
 
 -- the checksum that is sent is the window's
 pub commits : (z : Outcome Written (List ℕ)) (l : Layout) (image : List ℕ) (g : Gauge) (x : ℕ) → x ≡ checksum (g .window)
-    → z ≡ write l image g blockDataChecksum (x ∷ []) → z ≡ write l image g blockDataChecksum (checksum (g .window) ∷ [])
+    → z ≡ write l image g blockDataChecksum (x ∷ []) → z ≡ commitWindow l image g
 commits z l image g x q e = rw q at e
 
 -- a parameter that may be set can be read
 pub free-of-set : (l : Layout) (n : ℕ) (p : Parameter) (v : ℤ) → setError l n p v ≡ 0 → getError l n p ≡ 0
 free-of-set l n p v e = settable l n p v e .0
 
--- the image after the checksum, where a write has left w
-abbrev afterCommit : Layout → Outcome Written (List ℕ) → List ℕ
-afterCommit l w = write l (w .lent) (w .answer .gauge) blockDataChecksum (checksum (w .answer .gauge .window) ∷ []) .lent
-
--- and after a value's bytes
-abbrev sent : Layout → List ℕ → Gauge → Parameter → ℤ → List ℕ
-sent l image g p v = afterCommit l (write l image g (blockData + p .offset % blockSize) (toBytes (widthOf (p .kind)) v))
-
 -- the value's bytes are sent, and no zero behind them
 pub edits : (z : Outcome Written (List ℕ)) (l : Layout) (image : List ℕ) (g : Gauge) (p : Parameter) (u v : ℤ) (at n : ℕ) (bytes : List ℕ) → u ≡ v
-    → at ≡ blockData + p .offset % blockSize → n ≡ widthOf (p .kind) → n ≤ maxWidth
+    → at ≡ registerFor p → n ≡ widthOf (p .kind) → n ≤ maxWidth
     → bytes ≡ sets (replicate maxWidth 0) 0 (toBytes (widthOf (p .kind)) u) → z ≡ write l image g at (take (n - 0) (drop 0 bytes))
-    → z ≡ write l image g (blockData + p .offset % blockSize) (toBytes (widthOf (p .kind)) v)
+    → z ≡ editWith l image g p v
 edits z l image g p u v at n bytes x a w most t e =
     let value = toBytes (widthOf (p .kind)) v in
     let k = to-bytes-length (widthOf (p .kind)) v in
@@ -105,62 +94,33 @@ edits z l image g p u v at n bytes x a w most t e =
 
 -- the bytes are sent, and then the checksum
 pub sends : (l : Layout) (image : List ℕ) (g : Gauge) (p : Parameter) (u v : ℤ) (w₁ : Written) (image₁ : List ℕ) (w₂ : Written) (image₂ : List ℕ) → u ≡ v
-    → outcome w₁ image₁ ≡ write l image g (blockData + p .offset % blockSize) (toBytes (widthOf (p .kind)) u)
-    → outcome w₂ image₂ ≡ write l image₁ (w₁ .gauge) blockDataChecksum (checksum (w₁ .gauge .window) ∷ [])
-    → image₂ ≡ sent l image g p v
+    → outcome w₁ image₁ ≡ editWith l image g p u → outcome w₂ image₂ ≡ commitWindow l image₁ (w₁ .gauge) → image₂ ≡ sent l image g p v
 unfolding outcome
 sends l image g p u v w₁ image₁ w₂ image₂ x c₁ c₂ = ap (λ (y : Outcome Written (List ℕ)). y .lent) c₂ ∙ ap (afterCommit l) c₁ ∙ ap (sent l image g p) x
 
 -- with its block loaded
 module _ (l : Layout) (image : List ℕ) (p : Parameter) (h : (k : ℕ) → Fits w8 (getD image k 0)) (hc : Fits w8 (p .class)) (g : Gauge)
-    (q : g ≡ blockSelected l image (flashSelected (powerOn bootOpen)) (p .class) (p .offset / blockSize)) (image₁ : List ℕ) (s : image₁ ≡ image) where
-  abbrev i : ℕ
-  i = p .class
-
-  abbrev b : ℕ
-  b = p .offset / blockSize
-
-  abbrev o : ℕ
-  o = p .offset % blockSize
-
+    (q : g ≡ blockSelected l image openGauge (p .class) (p .offset / blockSize)) (image₁ : List ℕ) (s : image₁ ≡ image) where
   -- its bytes are read, n from register `at` on
-  pub fetches : (at n : ℕ) → at ≡ blockData + o → n ≡ widthOf (p .kind) → getError l (length image) p ≡ 0
+  pub fetches : (at n : ℕ) → at ≡ registerFor p → n ≡ widthOf (p .kind) → getError l (length image) p ≡ 0
       → (r : Reading) (buffer buffer₁ : List ℕ) → n ≤ length buffer → outcome r buffer₁ ≡ read l image₁ g at n buffer
       → take (widthOf (p .kind)) buffer₁ ≡ take (widthOf (p .kind)) (drop (startIn l p) image)
   fetches at n a w e r buffer buffer₁ room c =
       let t = readable l (length image) p e in
-      let d = in-block l (length image) p t in
-      let f = opened l image (t .fitting) (bytes-of image h) in
-      let hi = hc .fits in
-      let some = width-some l (length image) p t in
-      let part = take n (drop (d .start + o) image) in
+      let part = take n (drop (startIn l p) image) in
       let got : outcome r buffer₁ ≡ outcome (reading 0 n) (part ++ drop n buffer) =
-      c
-      ∙ rw (s, q, a)
-      (read-block l image (flashSelected (powerOn bootOpen)) i b (d .start) (d .len) (f .good) (f .access) (omega arith) (d .byte) (d .found) o n buffer
-      (omega (arith, w)) (omega (arith, w, d .end)) room) in
-      let long : length part ≡ n = part-length image (d .start + o) n (omega (arith, w, d .place, bytes-end l (length image) p t)) in
-      rw (← w, left r (reading 0 n) buffer₁ (part ++ drop n buffer) got, ← d .place) (take-at part (drop n buffer) n long)
+      c ∙ rw (s, q, a) (parameter-reads l image p t (bytes-of image h) (byte-of (p .class) hc) n buffer w room) in
+      let long = part-length image (startIn l p) n (omega (arith, w, bytes-end l (length image) p t)) in
+      rw (← w, left r (reading 0 n) buffer₁ (part ++ drop n buffer) got) (take-at part (drop n buffer) n long)
 
   -- a value is written and committed
-  module _ (v u : ℤ) (x : u ≡ v) (e : setError l (length image) p v ≡ 0) (image₂ : List ℕ) (c : image₂ ≡ sent l image₁ g p u) where
-    abbrev value : List ℕ
-    value = toBytes (widthOf (p .kind)) v
-
-    writes : BlockWrites l image (flashSelected (powerOn bootOpen)) i b o value (sets image (startIn l p) value)
-    writes =
-        let r = readable l (length image) p (free-of-set l (length image) p v e) in
-        let d = in-block l (length image) p r in
-        let f = opened l image (r .fitting) (bytes-of image h) in
-        let hi = hc .fits in
-        let k = to-bytes-length (widthOf (p .kind)) v in
-        rw (← d .place)
-        (write-block l image (flashSelected (powerOn bootOpen)) i b (d .start) (d .len) (f .good) (f .access) (omega arith) (d .byte) (d .found) o value
-        (to-bytes-bytes (widthOf (p .kind)) v) (omega (arith, k, width-some l (length image) p r)) (omega (arith, k, d .end)))
-
-    pub stores : image₂ ≡ sets image (startIn l p) value
-    unfolding outcome
-    stores = c ∙ rw (s, q, x) (ap (afterCommit l) (writes .edit) ∙ ap (λ (y : Outcome Written (List ℕ)). y .lent) (writes .commit))
+  pub stores : (v u : ℤ) → u ≡ v → setError l (length image) p v ≡ 0 → (image₂ : List ℕ) → image₂ ≡ sent l image₁ g p u
+      → image₂ ≡ sets image (startIn l p) (toBytes (widthOf (p .kind)) v)
+  unfolding outcome
+  stores v u x e image₂ c =
+      let t = readable l (length image) p (free-of-set l (length image) p v e) in
+      let w = parameter-writes l image p t (bytes-of image h) (byte-of (p .class) hc) v in
+      c ∙ rw (s, q, x) (ap (afterCommit l) (w .edit) ∙ ap (λ (y : Outcome Written (List ℕ)). y .lent) (w .commit))
 
 -- a copy of the image, in front of a buffer that has room for every image
 pub image-small : (l : Layout) (image : List ℕ) (p : Parameter) → getError l (length image) p ≡ 0 → length image ≤ maxImageLength

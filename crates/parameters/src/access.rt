@@ -20,20 +20,17 @@ use integers::kind::width;
 use parameterrules::kind::MAX_WIDTH;
 use parameterrules::parameter::Parameter;
 ghost use mathlib.Core.Path.{_≡_};
-ghost use mathlib.Core.List.{[], _∷_};
-ghost use Prim.Native.Nat.{_+_, _/_, _%_};
+ghost use Prim.Native.Nat.{_/_};
 ghost use lib.ListN.{length, take, drop};
 ghost use lib.Seq.{sets};
-ghost use Rattle.checksum.specs.Checksum.{checksum};
 ghost use Rattle.flashrules.specs.Outcome.{outcome};
 ghost use Rattle.flashrules.specs.Lookup.{blockSize};
 ghost use Rattle.gaugerules.specs.State.{bootOpen, powerOn};
-ghost use Rattle.gaugerules.specs.Register.{blockData, blockDataChecksum};
-ghost use Rattle.gaugerules.specs.Write.{write};
 ghost use Rattle.gaugerules.specs.BlockAccess.{flashSelected, blockSelected};
 ghost use Rattle.parameterrules.specs.Integer.{toBytes};
 ghost use Rattle.parameterrules.specs.Kind.{widthOf};
 ghost use Rattle.parameterrules.specs.Parameter.{getError, setError, startIn, valueIn};
+ghost use Rattle.parameters.specs.Access.{registerFor, editWith, commitWindow, sent};
 
 // Powers a gauge on and loads the parameter's block.
 fn select(layout: Layout, image: &mut [u8], parameter: Parameter) -> Gauge
@@ -65,7 +62,7 @@ fn select(layout: Layout, image: &mut [u8], parameter: Parameter) -> Gauge
 
 // The register of its first byte while its block is loaded.
 fn register(parameter: Parameter) -> u8
-    ensures { λ r. ⌜ r ≡ blockData + parameter .offset % blockSize ⌝ }
+    ensures { λ r. ⌜ r ≡ registerFor parameter ⌝ }
 {
     (BLOCK_DATA + parameter.offset as usize % BLOCK_SIZE) as u8
 }
@@ -96,7 +93,7 @@ pub(crate) fn value_in(layout: Layout, image: &[u8], parameter: Parameter) -> i6
 
 // A value's bytes are sent to the window.
 fn edit(layout: Layout, image: &mut [u8], gauge: Gauge, parameter: Parameter, value: i64) -> Written
-    ensures { λ w. ⌜ outcome w (now (image .exit)) ≡ write layout (now (image .entry)) gauge (blockData + parameter .offset % blockSize) (toBytes (widthOf (parameter .kind)) value) ⌝ }
+    ensures { λ w. ⌜ outcome w (now (image .exit)) ≡ editWith layout (now (image .entry)) gauge parameter value ⌝ }
 {
     let at = register(parameter);
     let n = width(parameter.kind);
@@ -106,7 +103,7 @@ fn edit(layout: Layout, image: &mut [u8], gauge: Gauge, parameter: Parameter, va
 
 // The checksum of the window is sent.
 fn commit(layout: Layout, image: &mut [u8], gauge: Gauge) -> Written
-    ensures { λ w. ⌜ outcome w (now (image .exit)) ≡ write layout (now (image .entry)) gauge blockDataChecksum (checksum (gauge .window) ∷ []) ⌝ }
+    ensures { λ w. ⌜ outcome w (now (image .exit)) ≡ commitWindow layout (now (image .entry)) gauge ⌝ }
 {
     let window = gauge.window;
     let sum = checksum(&window);
@@ -115,7 +112,7 @@ fn commit(layout: Layout, image: &mut [u8], gauge: Gauge) -> Written
 
 // A value's bytes are sent, and then the checksum.
 fn send(layout: Layout, image: &mut [u8], gauge: Gauge, parameter: Parameter, value: i64)
-    ensures { λ _. ⌜ now (image .exit) ≡ (let w = write layout (now (image .entry)) gauge (blockData + parameter .offset % blockSize) (toBytes (widthOf (parameter .kind)) value) in write layout (w .lent) (w .answer .gauge) blockDataChecksum (checksum (w .answer .gauge .window) ∷ []) .lent) ⌝ }
+    ensures { λ _. ⌜ now (image .exit) ≡ sent layout (now (image .entry)) gauge parameter value ⌝ }
 {
     let edited = edit(layout, image, gauge, parameter, value);
     let next = edited.gauge;

@@ -4,14 +4,14 @@ use Prim.Native.Nat.{_+_, _*_, _≤_}
 use mathlib.Core.Path.{_≡_}
 use borrow.Author.Needs.{needs}
 use lib.ListN.{take, drop}
-use Rattle.parameterrules.specs.Integer.{magnitude}
+use Rattle.parameterrules.specs.Integer.{magnitudeOf}
 use Rattle.integers.proofs.Laws.{read-turn, read-end}
 use Rattle.integers.proofs.bytes.magnitude_of.Statement.{statement}
 use Rattle.integers.proofs.bytes.magnitude_of.Tie as tie
 
 abbrev Inv-loop : tie.InvT-loop
 Inv-loop negative width bytes sum₀ i₀ k₀ sum i k =
-    (i + k ≡ width) × ((sum + k * 1099511627776 ≤ 4398046511104) × (sum + magnitude negative (take k (drop i bytes)) ≡ magnitude negative (take width bytes)))
+    (i + k ≡ width) × ((sum + k * 1099511627776 ≤ 4398046511104) × (sum + magnitudeOf negative (take k (drop i bytes)) ≡ magnitudeOf negative (take width bytes)))
 
 abbrev μ-loop : tie.MeasureT-loop
 μ-loop negative width bytes sum₀ i₀ k₀ sum i k = k

@@ -3,7 +3,6 @@ use Prim.Native.Nat.{ℕ, _+_, _%_, _≤_, _<_}
 use mathlib.Core.Path.{_≡_, refl}
 use mathlib.Core.Bool.{Bool, true, false, not}
 use mathlib.Core.List.{List, [], _∷_}
-use native.Mathlib.Omega.{arith}
 use lib.IntN.{ℤ}
 use lib.Signed.{leZ}
 use borrow.Author.Needs.{sfits-of}
@@ -20,7 +19,9 @@ use Rattle.flashrules.proofs.RefusalLaws.{error-first, error-behind}
 use Rattle.parameterrules.specs.Kind.{widthOf, holds}
 use Rattle.parameterrules.specs.Parameter.{valid, inRange, placeTests, getTests, getError, setError}
 use Rattle.parameterrules.specs.declared.parameter.Parameter.{Parameter}
+use Rattle.parameterrules.proofs.PlaceLaws.{get-numbered}
 
+-- an i64 that was passed is the same number
 pub ruleset back = (toZ-ofZ, sfits-of)
 
 -- ---- valid parameters, and values in range
@@ -98,12 +99,12 @@ module _ (l : Layout) (size : ℕ) (p : Parameter) (v : ℤ) (e : ℕ) (q : e �
 
   pub refused-before : (e ≡ 0 → ⊥) → e ≡ setError l size p v
   unfolding getError setError
-  refused-before h = error-first (getTests l size p) more (omega arith, (omega arith, (omega arith, (omega arith, (omega arith, tt))))) e q h
+  refused-before h = error-first (getTests l size p) more (get-numbered l size p) e q h
 
   module _ (t : Bool) (u : ℤ) (b : u ≡ v) (r : t ≡ inRange p u) (z : e ≡ 0) where
     behind : (k : ℕ) → k ≡ firstError more → k ≡ setError l size p v
     unfolding getError setError
-    behind = error-behind (getTests l size p) more (omega arith, (omega arith, (omega arith, (omega arith, (omega arith, tt))))) e q z
+    behind = error-behind (getTests l size p) more (get-numbered l size p) e q z
 
     pub in-range-free : t ≡ true → 0 ≡ setError l size p v
     in-range-free h = behind 0 (rw (← b, ← r, h))

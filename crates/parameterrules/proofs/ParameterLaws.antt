@@ -24,7 +24,7 @@ use Rattle.parameterrules.specs.Parameter.{valid, inRange, getTests, get
 use Rattle.parameterrules.specs.Laws.{SetRefused, Replaced, SetReplaces, SetThenGet, GetThenSet, SetElsewhere}
 use Rattle.parameterrules.specs.declared.parameter.Parameter.{Parameter}
 use Rattle.parameterrules.proofs.IntegerLaws.{to-bytes-length, to-from-bytes, from-to-bytes}
-use Rattle.parameterrules.proofs.PlaceLaws.{Readable, readable, settable, bytes-end}
+use Rattle.parameterrules.proofs.PlaceLaws.{get-numbered, Readable, readable, settable, bytes-end}
 
 -- ---- an accepted set
 
@@ -132,7 +132,7 @@ set-error : (l : Layout) (size : ℕ) (p : Parameter) (v : ℤ) → getError l s
 unfolding setError getError
 set-error l size p v e r =
     sym
-    (error-behind (getTests l size p) ((not (inRange p v), outOfRange) ∷ []) (omega arith, (omega arith, (omega arith, (omega arith, (omega arith, tt))))) 0
+    (error-behind (getTests l size p) ((not (inRange p v), outOfRange) ∷ []) (get-numbered l size p) 0
     (sym e) refl 0 (rw r))
 
 get-free : (l : Layout) (image : List ℕ) (p : Parameter) → get l image p .error ≡ 0 → getError l (length image) p ≡ 0

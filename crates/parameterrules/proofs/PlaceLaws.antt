@@ -5,6 +5,7 @@ use mathlib.Core.Bool.{true, false, true≢false}
 use native.Mathlib.Omega.{arith}
 use lib.IntN.{ℤ}
 use borrow.Author.Tests.{ltb-false, lt-ltb, leb-true, not-false}
+use Rattle.flashrules.specs.Refusal.{Numbered}
 use Rattle.flashrules.specs.Layout.{maxImageLength, classes, fits}
 use Rattle.flashrules.specs.Lookup.{blockSize, findClass, findBlock}
 use Rattle.flashrules.specs.Image.{maxByte}
@@ -39,10 +40,14 @@ class-inside l size i s n f q =
     let there = locate-inside 0 (classes l) i s n (rw (p .0) at q) in
     (omega (arith, p .1, there .1), omega (arith, p .1, valid-parts l (p .0) .small))
 
+-- no test has the number 0
+pub get-numbered : (l : Layout) (size : ℕ) (p : Parameter) → Numbered (getTests l size p)
+get-numbered l size p = (omega arith, (omega arith, (omega arith, (omega arith, (omega arith, tt)))))
+
 pub readable : (l : Layout) (size : ℕ) (p : Parameter) → getError l size p ≡ 0 → Readable l size p
 unfolding getError
 readable l size p e =
-    let t = no-error (getTests l size p) (omega arith, (omega arith, (omega arith, (omega arith, (omega arith, tt))))) .0 e in
+    let t = no-error (getTests l size p) (get-numbered l size p) .0 e in
     let f = not-false _ (t .0) in
     on-answer (findClass l (p .class))
     (λ s n q.
@@ -65,7 +70,7 @@ pub settable : (l : Layout) (size : ℕ) (p : Parameter) (v : ℤ) → setError 
 unfolding setError getError
 settable l size p v e =
     let t = no-error (setTests l size p v) (omega arith, (omega arith, (omega arith, (omega arith, (omega arith, (omega arith, tt)))))) .0 e in
-    let g = no-error (getTests l size p) (omega arith, (omega arith, (omega arith, (omega arith, (omega arith, tt))))) .1 in
+    let g = no-error (getTests l size p) (get-numbered l size p) .1 in
     (g (t .0, (t .1 .0, (t .1 .1 .0, (t .1 .1 .1 .0, (t .1 .1 .1 .1 .0, tt))))), not-false _ (t .1 .1 .1 .1 .1 .0))
 
 -- where its bytes lie in the image

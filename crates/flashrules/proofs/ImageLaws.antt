@@ -148,5 +148,5 @@ store-edited l image i b s k p o bs h =
     let zs : List ℕ = replicate (blockSize - length (take k (drop s image))) 0 in
     let long : k ≤ length (take k (drop s image) ++ zs) = omega (arith, inside .most, rw p at full) in
     rw p
-    (paste-sets image s k (inside .end) (take k (drop s image) ++ zs) bs o long h
+    (paste-sets image s k (inside .end) (take k (drop s image) ++ zs) bs o long (omega arith)
     ∙ ap (λ (d : List ℕ). sets d (s + o) bs) (paste-self image s k (inside .end) zs))

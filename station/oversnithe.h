@@ -1,9 +1,18 @@
 /*
- * Oversnithe's functions for C: link libstation.a, which `rt staticlib station` proves and writes to target/staticlib.
+ * Oversnithe's functions for C and C++, on x86-64 Linux: link libstation.a, which
+ * `rt staticlib station` proves and writes to target/staticlib.
  *
- * Every call answers every argument. Nothing is kept, allocated or shared between calls, so that calls on different
- * images may run side by side. Bytes are lent as a pointer and a length for the time of the call; a null pointer with
- * length 0 is no bytes. An error is document 01's number, 0 where there is none.
+ * Bytes are lent as a pointer and a length.
+ *   - The pointer is to `length` bytes that may be read, and written where it is not const, and
+ *     that nobody else writes during the call. Nothing before or after them is touched.
+ *   - With length 0 the pointer is not used, and may be null. Null with any other length is a
+ *     fault of the caller.
+ *   - A length is at most PTRDIFF_MAX, as that of any object in C.
+ *
+ * Every call returns, whatever the bytes are. Nothing is kept, allocated or shared between calls,
+ * and no file is touched, so that calls may run side by side on any threads. The image check takes
+ * 15 KB of stack, the others less. An error is the number that document 01 gives a refusal, 0 where
+ * there is none.
  */
 #ifndef OVERSNITHE_H
 #define OVERSNITHE_H
@@ -16,11 +25,22 @@
 extern "C" {
 #endif
 
+/*
+ * The checksum of any number of bytes: 255 less the low eight bits of their sum; 255 for none. The
+ * bytes of a window give what the gauge has at 0x60.
+ */
+uint8_t oversnithe_checksum(const uint8_t *bytes, size_t length);
+
+/*
+ * Whether the text of a file, the whole of it, is an image file: 0 if it is, 10 if it is not.
+ */
+uint8_t oversnithe_image_check(const uint8_t *text, size_t length);
+
 #define OVERSNITHE_MAX_CLASSES 32
 
 /*
- * The classes of an image in the order of their bytes: identifier and length of each. Only the first `count` entries mean
- * anything.
+ * The classes of an image in the order of their bytes: identifier and length of each. Only the
+ * first `count` entries mean anything.
  */
 typedef struct {
     size_t count;
@@ -37,8 +57,8 @@ typedef struct {
 #define OVERSNITHE_I32 0x84
 
 /*
- * A parameter: the class and the offset of its first byte, its kind, and the least and the greatest value in range. It is
- * valid if min is at most max and both fit the kind.
+ * A parameter: the class and the offset of its first byte, its kind, and the least and the greatest
+ * value in range. It is valid if min is at most max and both fit the kind.
  */
 typedef struct {
     uint8_t class_id;
@@ -56,19 +76,21 @@ typedef struct {
 } oversnithe_parameter_value;
 
 /*
- * The value of a parameter, most significant byte first, and whether it is in range. Errors, in this order: 10 the layout
- * is invalid or the image has another length, 11 the parameter is invalid, 4 its class is not in the layout, 12 its bytes
- * leave the class or cross the end of a block of 32 bytes.
+ * The value of a parameter, most significant byte first, and whether it is in range. Errors, in
+ * this order: 10 the layout is invalid or the image has another length, 11 the parameter is
+ * invalid, 4 its class is not in the layout, 12 its bytes leave the class or cross the end of a
+ * block of 32 bytes.
  */
-oversnithe_parameter_value oversnithe_parameter_get(oversnithe_layout layout, const uint8_t *image, size_t length,
-                                                    oversnithe_parameter parameter);
+oversnithe_parameter_value oversnithe_parameter_get(oversnithe_layout layout, const uint8_t *image,
+                                                    size_t length, oversnithe_parameter parameter);
 
 /*
- * Sets a parameter to a value, and answers the error: those above, then 13 where the value is not in range. The image's
- * bytes of that parameter become the value's, and no other byte changes; refused, none does.
+ * Sets a parameter to a value, and answers the error: those above, then 13 where the value is not
+ * in range. The image's bytes of that parameter become the value's, and no other byte changes;
+ * refused, none does.
  */
-uint8_t oversnithe_parameter_set(oversnithe_layout layout, uint8_t *image, size_t length, oversnithe_parameter parameter,
-                                 int64_t value);
+uint8_t oversnithe_parameter_set(oversnithe_layout layout, uint8_t *image, size_t length,
+                                 oversnithe_parameter parameter, int64_t value);
 
 #ifdef __cplusplus
 }

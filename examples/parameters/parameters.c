@@ -1,5 +1,6 @@
 /*
- * Three parameters of a sample image are printed, set and printed again. Their places are the sample's own.
+ * Three parameters of a sample image are printed, set and printed again. Their places are the
+ * sample's own.
  */
 #include <inttypes.h>
 #include <stdio.h>

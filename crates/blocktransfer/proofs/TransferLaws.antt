@@ -1,4 +1,5 @@
--- Laws of block transfer: a block as loaded, and what loads, edits and commits put together from calls.
+-- Laws of block transfer: a block as loaded, and what loads, edits and commits put together from
+-- calls.
 use Prim.Native.Nat.{ℕ, zero, suc, _+_, _-_, _≤_, _<_}
 use mathlib.Core.Path.{_≡_, sym, ap, _∙_}
 use mathlib.Core.Bool.{Bool, true, false, cond, not}

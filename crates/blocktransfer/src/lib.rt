@@ -1,4 +1,5 @@
-// Block transfer: what a byte at 0x3E, 0x3F, 0x40 to 0x5F, 0x60 and 0x61 does. A refused byte hands the gauge back as it was.
+// Block transfer: what a byte at 0x3E, 0x3F, 0x40 to 0x5F, 0x60 and 0x61 does. A refused byte hands
+// the gauge back as it was.
 use checksum::checksum;
 use dataflash::store_block;
 use flashrules::error::INVALID_CONTROL;
@@ -72,7 +73,8 @@ fn window_of(part: &[u8]) -> [u8; BLOCK_SIZE]
     window
 }
 
-// A block of a class. Its part is empty exactly where the lookup is refused, which then gives the number.
+// A block of a class. Its part is empty exactly where the lookup is refused, which then gives the
+// number.
 fn load_block(
     layout: Layout,
     image: &[u8],

@@ -12,7 +12,8 @@ ghost use Rattle.casetable.specs.Cases.{benchSize, session, caseAt};
 // Room for the replies of any case.
 const ROOM: usize = 1024;
 
-// Runs a script and prints its output; whether it is this, and the image after it has this byte at this index and is else as it was.
+// Runs a script and prints its output; whether it is this, and the image after it has this byte at
+// this index and is else as it was.
 fn runs_so(first: u8, boot: u8, script: &[u8], output: &[u8], at: usize, byte: u8) -> bool
     requires { ⌜ at < benchSize ⌝ }
 {

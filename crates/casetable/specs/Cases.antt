@@ -1,6 +1,6 @@
--- The bench cases of document 01 that are to be proved, as one table with one claim: `CasesHold`. It stands above
--- every crate whose rules have a case in it, and speaks of those rules alone. Program `cases` runs the same cases:
--- what it hands to the code is required to be in the table.
+-- The bench cases of document 01 that are to be proved, as one table with one claim: `CasesHold`.
+-- It stands above every crate whose rules have a case in it, and speaks of those rules alone.
+-- Program `cases` runs the same cases: what it hands to the code is required to be in the table.
 use Prim.Native.Nat.{ℕ}
 use mathlib.Core.Path.{_≡_}
 use mathlib.Core.Bool.{Bool, true, false}
@@ -26,8 +26,8 @@ use Rattle.casetable.specs.Lines.{linesText}
 
 -- ---- what a case is, and when it holds
 
--- the layout of every case: P6's class of 33 bytes, with the two classes that every layout has. The paper's numbers
--- are written out, so that the table holds the rules' names for them to the paper
+-- the layout of every case: P6's class of 33 bytes, with the two classes that every layout has. The
+-- paper's numbers are written out, so that the table holds the rules' names for them to the paper
 abbrev pub benchLayout : Layout
 benchLayout = record { count = 3; ids = 48 ∷ 58 ∷ 112 ∷ replicate 29 0; lengths = 33 ∷ 96 ∷ 28 ∷ replicate 29 0 }
 
@@ -50,11 +50,11 @@ pub data Case : Type 0 where
   change : ℕ → ℕ → ℕ → ℕ → Case
   -- a class, a block of it, and the error number and the length that its lookup answers
   lookup : ℕ → ℕ → ℕ → ℕ → Case
-  -- the image's first byte, the home at power-on, a script and its output, and the one byte of the image after it
-  -- that may be another: its index and its value
+  -- the image's first byte, the home at power-on, a script and its output, and the one byte of the
+  -- image after it that may be another: its index and its value
   session : ℕ → ℕ → List ℕ → List ℕ → ℕ → ℕ → Case
-  -- a parameter, a value to be set, the error number, and the bytes of the image after it that may be others: the
-  -- index of the first, and their values
+  -- a parameter, a value to be set, the error number, and the bytes of the image after it that may
+  -- be others: the index of the first, and their values
   setParameter : Parameter → ℤ → ℕ → ℕ → List ℕ → Case
   -- the image's first byte, a parameter, and the value in range that is read
   getParameter : ℕ → Parameter → ℤ → Case
@@ -104,8 +104,8 @@ cases =
     -- P6: "class of 33 bytes: block 1 has one byte, block 2 is refused with 5."
     ∷ lookup 48 1 0 1
     ∷ lookup 48 2 5 0
-    -- P7: "in that block 1, 7 at 0x41 counts in the checksum and is not stored." 5 at 0x40 is, and the checksum
-    -- without 7 is refused
+    -- P7: "in that block 1, 7 at 0x41 counts in the checksum and is not stored." 5 at 0x40 is, and
+    -- the checksum without 7 is refused
     ∷ session 0 1
     (linesText
     ((0x01 ∷ 0x61 ∷ 0 ∷ [])
@@ -154,7 +154,8 @@ cases =
     ∷ []))
     (linesText ((0 ∷ 1 ∷ []) ∷ (0 ∷ 2 ∷ []) ∷ (0 ∷ 0x55 ∷ replicate 31 0) ∷ (0 ∷ 2 ∷ []) ∷ (0 ∷ replicate 32 0) ∷ []))
     0 0x55
-    -- P11: "two bytes at offset 31: 12; at 30: accepted." Class 48 has both; it is the block that ends
+    -- P11: "two bytes at offset 31: 12; at 30: accepted." Class 48 has both; it is the block that
+    -- ends
     ∷ setParameter (benchParameter 31 2 (pos 0) (pos 65535)) (pos 0x1234) 12 0 []
     ∷ setParameter (benchParameter 30 2 (pos 0) (pos 65535)) (pos 0x1234) 0 30 (0x12 ∷ 0x34 ∷ [])
     -- P12: "signed byte -128 is 80."

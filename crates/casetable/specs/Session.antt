@@ -1,5 +1,5 @@
--- Document 01's session, "The replay program": its files and its whole output, as texts, and the claim that the one
--- follows from the others.
+-- Document 01's session, "The replay program": its files and its whole output, as texts, and the
+-- claim that the one follows from the others.
 use Prim.Native.Nat.{ℕ}
 use mathlib.Core.Path.{_≡_}
 use mathlib.Core.List.{List, [], _∷_, _++_}
@@ -7,8 +7,8 @@ use lib.ListN.{replicate}
 use Rattle.scriptrules.specs.Replay.{replay}
 use Rattle.casetable.specs.Lines.{linesText}
 
--- "class 48 is 00 00 00 00 00 01, whose line is 3000000000000001FE; class 58 all zero; class 112 is 14 04 72 36 and
--- 24 bytes FF, checksum 57"
+-- "class 48 is 00 00 00 00 00 01, whose line is 3000000000000001FE; class 58 all zero; class 112 is
+-- 14 04 72 36 and 24 bytes FF, checksum 57"
 abbrev pub image : List ℕ
 image =
     linesText

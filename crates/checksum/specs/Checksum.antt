@@ -11,8 +11,8 @@ total (b ∷ bs) = b + total bs
 abbrev pub checksum : List ℕ → ℕ
 checksum bs = 255 - total bs % 256
 
--- 01: "t = (255 - old checksum - old byte) mod 256 with t never negative": with 256 more it is not, and the remainder
--- is the same
+-- 01: "t = (255 - old checksum - old byte) mod 256 with t never negative": with 256 more it is not,
+-- and the remainder is the same
 abbrev pub withoutOld : ℕ → ℕ → ℕ
 withoutOld sum old = (255 + 256 - sum - old) % 256
 

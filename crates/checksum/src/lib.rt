@@ -1,5 +1,5 @@
-// The checksum of a block (document 01, "Checksum"): 255 less the low eight bits of the sum of its bytes, and the same after one byte has
-// changed. The sum wraps at 256 by intent.
+// The checksum of a block (document 01, "Checksum"): 255 less the low eight bits of the sum of its
+// bytes, and the same after one byte has changed. The sum wraps at 256 by intent.
 use std::num::wrapping_add_u8;
 use std::num::wrapping_sub_u8;
 ghost use mathlib.Core.Path.{_≡_};

@@ -1,4 +1,5 @@
-// Control words: a byte at 0x01 makes one, and it is obeyed. The keys are read from the image at that moment.
+// Control words: a byte at 0x01 makes one, and it is obeyed. The keys are read from the image at
+// that moment.
 use dataflash::block;
 use flashrules::layout::KEY_CLASS;
 use flashrules::layout::Layout;

@@ -1,5 +1,6 @@
-// The blocks of an image, by the lookup: handed out as parts of the lent slice itself, and stored into. A store touches the
-// block's own bytes and no other, however short the block; a refused call touches none.
+// The blocks of an image, by the lookup: handed out as parts of the lent slice itself, and stored
+// into. A store touches the block's own bytes and no other, however short the block; a refused call
+// touches none.
 use flashrules::layout::Layout;
 use flashrules::lookup::BLOCK_SIZE;
 use flashrules::lookup::Lookup;
@@ -14,7 +15,8 @@ ghost use Rattle.flashrules.specs.Answer.{errorOf};
 ghost use Rattle.flashrules.specs.Lookup.{blockSize, findBlock};
 ghost use Rattle.flashrules.specs.Image.{blockBytes, blockPlace, storeBlock};
 
-// The block itself, a part of the lent image and no copy; an empty part where the lookup is refused.
+// The block itself, a part of the lent image and no copy; an empty part where the lookup is
+// refused.
 pub fn block<'a>(layout: Layout, image: &'a [u8], class: u8, block: u8) -> &'a [u8]
     ensures { λ r. ⌜ now r ≡ blockBytes layout (now (image .entry)) class block ⌝ }
     ensures { λ r. ⌜ ptr r ≡ blockPlace (ptr (image .entry)) layout (now (image .entry)) class block ⌝ }
@@ -38,7 +40,8 @@ fn copy_in(image: &mut [u8], start: usize, window: [u8; BLOCK_SIZE], len: usize)
     }
 }
 
-// Stores a window's first bytes into a block, as many as the block has, and answers the lookup's error number.
+// Stores a window's first bytes into a block, as many as the block has, and answers the lookup's
+// error number.
 pub fn store_block(
     layout: Layout,
     image: &mut [u8],

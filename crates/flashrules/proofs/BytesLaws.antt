@@ -1,4 +1,5 @@
--- Lists of bytes: parts of them, and lists put together from them, are bytes again; and the test for it.
+-- Lists of bytes: parts of them, and lists put together from them, are bytes again; and the test
+-- for it.
 use Prim.Native.Nat.{ℕ, zero, suc, _+_, _-_, _≤_}
 use mathlib.Core.Path.{_≡_, refl}
 use mathlib.Core.Bool.{true}

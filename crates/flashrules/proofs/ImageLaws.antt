@@ -1,4 +1,5 @@
--- Laws of the blocks of an image: their bytes as loaded, and what a store leaves, in the block and elsewhere.
+-- Laws of the blocks of an image: their bytes as loaded, and what a store leaves, in the block and
+-- elsewhere.
 use Prim.Native.Nat.{ℕ, _+_, _-_, _≤_, _<_}
 use mathlib.Core.Path.{_≡_, sym, ap, _∙_}
 use mathlib.Core.List.{List, [], _++_}

@@ -1,4 +1,5 @@
--- Laws of layouts: their classes as the code goes through them, by the index k of an entry, and what a valid layout has.
+-- Laws of layouts: their classes as the code goes through them, by the index k of an entry, and
+-- what a valid layout has.
 use Prim.Native.Nat.{ℕ, zero, suc, _+_, _≤_, _<_, min}
 use mathlib.Core.Path.{_≡_, refl, sym, ap, _∙_}
 use mathlib.Core.Bool.{Bool, true, false, cond}
@@ -30,7 +31,8 @@ getD-paired (i ∷ is) [] k h g = absurd (omega arith)
 getD-paired (i ∷ is) (n ∷ ns) zero h g = refl
 getD-paired (i ∷ is) (n ∷ ns) (suc k) h g = getD-paired is ns k (omega arith) (omega arith)
 
--- what the loops know of a layout: its arrays are whole, and no more entries are in use than there are
+-- what the loops know of a layout: its arrays are whole, and no more entries are in use than there
+-- are
 pub record Whole (l : Layout) : Type 0 where
   pub ids : length (l .ids) ≡ maxClasses
   pub lengths : length (l .lengths) ≡ maxClasses

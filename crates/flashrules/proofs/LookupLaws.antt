@@ -1,4 +1,5 @@
--- Laws of the class search and of the block lookup: what is found lies inside the image, and two blocks lie apart.
+-- Laws of the class search and of the block lookup: what is found lies inside the image, and two
+-- blocks lie apart.
 use Prim.Native.Nat.{ℕ, _+_, _-_, _*_, _^_, _≤_, _<_, min}
 use mathlib.Core.Path.{_≡_, refl, sym, _∙_}
 use mathlib.Core.Bool.{Bool, true, false}

@@ -1,4 +1,5 @@
--- Laws of a part of a list, of a list that is pasted into another, and of elements that are set one by one.
+-- Laws of a part of a list, of a list that is pasted into another, and of elements that are set one
+-- by one.
 use Prim.Native.Nat.{ℕ, suc, _+_, _-_, _≤_, _<_}
 use mathlib.Core.Path.{_≡_, refl, sym, ap, _∙_}
 use mathlib.Core.Logic.{_⊎_, ⊎-elim}

@@ -1,5 +1,6 @@
--- How a choice of the rules is answered at a `return`: by what the place knows of the choice, and by the answer of that branch. `search picks`
--- takes a goal `z ≡ cond t x y` apart so, however deep the choices nest, and finds what is known in the record of the place.
+-- How a choice of the rules is answered at a `return`: by what the place knows of the choice, and
+-- by the answer of that branch. `search picks` takes a goal `z ≡ cond t x y` apart so, however deep
+-- the choices nest, and finds what is known in the record of the place.
 use Prim.Native.Nat.{ℕ, _<_, _≤_}
 use borrow.Author.Tests.{eqb-true, eq-eqb, ne-eqb, lt-ltb, le-ltb, le-leb, lt-leb}
 use mathlib.Core.Path.{_≡_, refl, sym, _∙_}
@@ -36,7 +37,8 @@ pick-last z false e = e
 
 pub ruleset picks = (pick-eq, pick-ne, pick-lt, pick-ge, pick-le, pick-gt, pick-last)
 
--- the same where a call gave what is tested: k is what the call gave, and t, j or a what the rule tests
+-- the same where a call gave what is tested: k is what the call gave, and t, j or a what the rule
+-- tests
 module _ {A : Type 0} (z x y : A) (t k : Bool) (p : k ≡ t) where
   pub call-true : k ≡ true → z ≡ x → z ≡ cond t x y
   call-true q e = rw (← p, q) e

@@ -1,4 +1,5 @@
--- Laws of the order of refusals: when none of the tests holds, and one list of tests behind another.
+-- Laws of the order of refusals: when none of the tests holds, and one list of tests behind
+-- another.
 use Prim.Native.Nat.{ℕ}
 use mathlib.Core.Path.{_≡_, refl}
 use mathlib.Core.Bool.{Bool, cond}

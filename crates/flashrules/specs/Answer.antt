@@ -2,7 +2,8 @@
 use Prim.Native.Nat.{ℕ}
 use Rattle.flashrules.specs.declared.lookup.Lookup.{Lookup}
 
--- a choice by the answer: of start and length where it is found, of the error number where it is refused
+-- a choice by the answer: of start and length where it is found, of the error number where it is
+-- refused
 module _ {A : Type 0} where
   abbrev pub ifFound : Lookup → (ℕ → ℕ → A) → (ℕ → A) → A
   ifFound (Lookup.Found s n) f r = f s n

@@ -1,5 +1,5 @@
--- What the definitions amount to, claim by claim. proofs/Laws.antt has a proof of each, under its name in small
--- letters.
+-- What the definitions amount to, claim by claim. proofs/Laws.antt has a proof of each, under its
+-- name in small letters.
 use Prim.Native.Nat.{ℕ, _+_, _≤_, _<_}
 use mathlib.Core.Path.{_≡_}
 use mathlib.Core.Logic.{_⊎_, _↔_}
@@ -78,7 +78,8 @@ BlockLength =
     (l : Layout) (image : List ℕ) (i b : ℕ)
     → length (blockBytes l image i b) ≡ lengthOf (findBlock l (length image) i b)
 
--- a refused request gives an empty part, and no other does: the number of the lookup tells the two apart
+-- a refused request gives an empty part, and no other does: the number of the lookup tells the two
+-- apart
 abbrev pub BlockEmpty : Type 0
 BlockEmpty =
     (l : Layout) (image : List ℕ) (i b : ℕ)
@@ -119,8 +120,8 @@ StoreElsewhere =
     → ((i ≡ i′) × (b ≡ b′) → ⊥)
     → blockBytes l (storeBlock l image i b w) i′ b′ ≡ blockBytes l image i′ b′
 
--- a block as loaded, with bytes put in its window from byte o on, and stored: the image has them there, and is else
--- what it was
+-- a block as loaded, with bytes put in its window from byte o on, and stored: the image has them
+-- there, and is else what it was
 abbrev pub StoreEdited : Type 0
 StoreEdited =
     (l : Layout) (image : List ℕ) (i b s k : ℕ) → findBlock l (length image) i b ≡ Lookup.Found s k

@@ -21,7 +21,8 @@ maxClassLength = 512
 abbrev pub maxImageLength : ℕ
 maxImageLength = 4096
 
--- manufacturer info: the class of the manufacturer info blocks (document 01: manufacturer blocks A, B, C)
+-- manufacturer info: the class of the manufacturer info blocks (document 01: manufacturer blocks A,
+-- B, C)
 abbrev pub infoClass : ℕ
 infoClass = 58
 
@@ -60,8 +61,8 @@ sizeOf (c ∷ cs) = c .len + sizeOf cs
 abbrev pub size : Layout → ℕ
 size l = sizeOf (classes l)
 
--- 01: "The image is the classes' bytes in that order, end to end." The class with an identifier, where the first one
--- starts at `at`
+-- 01: "The image is the classes' bytes in that order, end to end." The class with an identifier,
+-- where the first one starts at `at`
 abbrev pub locate : ℕ → List Class → ℕ → Lookup
 locate at [] i = Lookup.Refused unknownClass
 locate at (c ∷ cs) i = cond (eqb (c .id) i) (Lookup.Found at (c .len)) (locate (at + c .len) cs i)
@@ -72,8 +73,8 @@ noClasses = record { count = 0; ids = replicate maxClasses 0; lengths = replicat
 
 -- ---- which layouts are valid
 
--- 01: "identifiers 0 to 255, strictly ascending, each 1 to 512 bytes long". The next identifier is at least lo; 0 to
--- 255 is the type of an entry
+-- 01: "identifiers 0 to 255, strictly ascending, each 1 to 512 bytes long". The next identifier is
+-- at least lo; 0 to 255 is the type of an entry
 abbrev pub inOrder : ℕ → Class → Bool
 inOrder lo c = and (leb lo (c .id) ∷ leb 1 (c .len) ∷ leb (c .len) maxClassLength ∷ [])
 
@@ -89,7 +90,8 @@ lengthIn l i = lengthOf (locate 0 (classes l) i)
 abbrev pub hasFixedClasses : Layout → Bool
 hasFixedClasses l = and (eqb (lengthIn l infoClass) infoLength ∷ leb minKeyLength (lengthIn l keyClass) ∷ [])
 
--- 01: "A layout is 1 to 32 classes, identifiers .., 4,096 bytes together at most. Class 58 .. Class 112 .."
+-- 01: "A layout is 1 to 32 classes, identifiers .., 4,096 bytes together at most. Class 58 .. Class
+-- 112 .."
 unfoldable pub valid : Layout → Bool
 valid l =
     and

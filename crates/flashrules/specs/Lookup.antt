@@ -1,4 +1,5 @@
--- Finding a class and a block. Document 01, "Layout and image", second and last point; refusals 10, 4, 5 in that order.
+-- Finding a class and a block. Document 01, "Layout and image", second and last point; refusals 10,
+-- 4, 5 in that order.
 use Prim.Native.Nat.{ℕ, _+_, _-_, _*_, min}
 use mathlib.Core.Bool.{Bool, false, cond}
 use lib.Dec.{ltb}
@@ -11,13 +12,13 @@ use Rattle.flashrules.specs.declared.lookup.Lookup.{Lookup}
 abbrev pub blockSize : ℕ
 blockSize = 32
 
--- 01: "Finding a class either gives its start and length or ends at once with refusal 4, 10 for the layout coming
--- first."
+-- 01: "Finding a class either gives its start and length or ends at once with refusal 4, 10 for the
+-- layout coming first."
 unfoldable pub findClass : Layout → ℕ → Lookup
 findClass l i = cond (valid l) (locate 0 (classes l) i) (Lookup.Refused malformed)
 
--- 01: "Block b of a class holds bytes 32b to 32b+31, or to the end of the class if that comes first. It exists when
--- 32b is less than the length."
+-- 01: "Block b of a class holds bytes 32b to 32b+31, or to the end of the class if that comes
+-- first. It exists when 32b is less than the length."
 abbrev pub blockIn : ℕ → ℕ → ℕ → Lookup
 blockIn s n b =
     let o = blockSize * b in

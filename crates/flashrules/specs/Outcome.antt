@@ -1,5 +1,5 @@
--- What a call answers and leaves. A contract equates all of it with a definition, so that no field of an answer is
--- left free.
+-- What a call answers and leaves. A contract equates all of it with a definition, so that no field
+-- of an answer is left free.
 
 -- the whole answer, and what was lent to be written into, after the call
 pub record Outcome (A B : Type 0) : Type 0 where

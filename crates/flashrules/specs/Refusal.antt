@@ -1,5 +1,5 @@
--- The order of refusals: tests with their error numbers, to be read beside document 01's "Order for a transaction:
--- 10, 15, 1, 14, then ..".
+-- The order of refusals: tests with their error numbers, to be read beside document 01's "Order for
+-- a transaction: 10, 15, 1, 14, then ..".
 use Prim.Native.Nat.{ℕ, _<_}
 use mathlib.Core.Path.{_≡_}
 use mathlib.Core.Bool.{Bool, false, cond}

@@ -1,5 +1,5 @@
-// Layouts: which classes an image has, in which order and how long. A layout is plain numbers, so a broken one can be written
-// down and passed to every function.
+// Layouts: which classes an image has, in which order and how long. A layout is plain numbers, so a
+// broken one can be written down and passed to every function.
 pub const MAX_CLASSES: usize = 32;
 
 pub const MAX_CLASS_LENGTH: usize = 512;
@@ -16,7 +16,8 @@ pub const KEY_CLASS: u8 = 112;
 
 pub const MIN_KEY_LENGTH: usize = 28;
 
-// Identifiers and lengths of the classes, in the order of their bytes. Only the first `count` entries mean anything.
+// Identifiers and lengths of the classes, in the order of their bytes. Only the first `count`
+// entries mean anything.
 #[repr(C)]
 pub struct Layout {
     pub count: usize,

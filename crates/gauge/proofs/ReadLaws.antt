@@ -60,7 +60,8 @@ module _ (g : Gauge) (r x : ℕ) (kind : Register) (p : kind ≡ registerOf r) w
 
 pub ruleset reads-register = (reads-control-low, reads-control-high, reads-class, reads-block, reads-window, reads-checksum, reads-control, reads-other)
 
--- ---- the loop over the buffer: what is left to fill gives what the whole gives. `e` is its invariant
+-- ---- the loop over the buffer: what is left to fill gives what the whole gives. `e` is its
+-- invariant
 
 pub fill-start : (g : Gauge) (r n : ℕ) (buffer : List ℕ) → take 0 buffer ++ (readBytes g r (n - 0) ++ drop n buffer) ≡ readBytes g r n ++ drop n buffer
 fill-start g r n buffer = rw sub-zero

@@ -86,7 +86,8 @@ pub takes-word : (l : Layout) (image : List ℕ) (g r : Gauge) (byte : ℕ) (s :
     → s ≡ accept (obey l image g (word (g .low) byte))
 takes-word l image g r byte s q e = rw (← q) e
 
--- ---- the loop over the bytes: what is left to write gives what the whole gives. `e` is its invariant
+-- ---- the loop over the bytes: what is left to write gives what the whole gives. `e` is its
+-- invariant
 
 module _ (l : Layout) (image : List ℕ) (g : Gauge) (bs : List ℕ) (at i : ℕ) (z : Outcome Written (List ℕ)) (e : writeBytes l image g at i (drop i bs) ≡ z) where
   pub run-end : length bs ≤ i → outcome (written 0 i g) image ≡ z

@@ -1,5 +1,5 @@
-// A read: so many registers from one on, into a lent buffer. It changes nothing else; a refused one leaves the buffer untouched, and
-// an accepted one the bytes past the answer.
+// A read: so many registers from one on, into a lent buffer. It changes nothing else; a refused one
+// leaves the buffer untouched, and an accepted one the bytes past the answer.
 use crate::register::decode;
 use crate::write::call_error;
 use checksum::checksum;

@@ -1,5 +1,5 @@
-// A write: its bytes one by one at the register, the next and so on, until one is refused. A refused byte alters neither gauge nor
-// image; the bytes before it stand.
+// A write: its bytes one by one at the register, the next and so on, until one is refused. A
+// refused byte alters neither gauge nor image; the bytes before it stand.
 use crate::register::decode;
 use blocktransfer::commit;
 use blocktransfer::edit;

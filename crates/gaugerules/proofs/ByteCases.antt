@@ -1,5 +1,5 @@
--- A proof by the cases of what one byte does: for each rule of block transfer, what it comes to and when. The one place that goes through these
--- rules; a law of all bytes goes by them.
+-- A proof by the cases of what one byte does: for each rule of block transfer, what it comes to and
+-- when. The one place that goes through these rules; a law of all bytes goes by them.
 use Prim.Native.Nat.{ℕ, _-_, _≤_}
 use mathlib.Core.Path.{_≡_}
 use mathlib.Core.Bool.{true, false}

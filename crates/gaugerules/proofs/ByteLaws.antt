@@ -1,5 +1,5 @@
--- Laws of one byte. Each rule either accepts it or hands the gauge and the image back, so a refused byte alters nothing and the bytes before it
--- stand; and no register but 0x60 touches the image.
+-- Laws of one byte. Each rule either accepts it or hands the gauge and the image back, so a refused
+-- byte alters nothing and the bytes before it stand; and no register but 0x60 touches the image.
 use Prim.Native.Nat.{ℕ, suc, _+_, _-_, _≤_}
 use mathlib.Core.Path.{_≡_, refl, ap, _∙_}
 use mathlib.Core.List.{List, [], _∷_}
@@ -63,7 +63,8 @@ refused-byte l image g r byte = refused-at l image g byte (registerOf r)
 
 -- ---- the bytes before a refused one
 
--- of bytes before which n were accepted, `count` more are; sent alone they leave what all of them leave
+-- of bytes before which n were accepted, `count` more are; sent alone they leave what all of them
+-- leave
 record Stands (l : Layout) (image : List ℕ) (g : Gauge) (r n : ℕ) (bytes : List ℕ) (w : Outcome Written (List ℕ)) : Type 0 where
   count : ℕ
   accepted : w .answer .accepted ≡ n + count

@@ -1,4 +1,5 @@
--- The commit rule: a byte at 0x60 is accepted exactly if it commits, and the image then alters by the store alone.
+-- The commit rule: a byte at 0x60 is accepted exactly if it commits, and the image then alters by
+-- the store alone.
 use Prim.Native.Nat.{ℕ, _≤_}
 use mathlib.Core.Path.{_≡_, refl, sym, _∙_}
 use mathlib.Core.Bool.{true, false, true≢false}

@@ -1,5 +1,6 @@
--- A call unseals a sealed gauge exactly by the unseal key: the pending word is always the last word obeyed, or none where that is no key word.
--- Only bytes at 0x00 and 0x01 touch what decides this, and a write makes one word at most, since the register after 0x01 takes no write.
+-- A call unseals a sealed gauge exactly by the unseal key: the pending word is always the last word
+-- obeyed, or none where that is no key word. Only bytes at 0x00 and 0x01 touch what decides this,
+-- and a write makes one word at most, since the register after 0x01 takes no write.
 use Prim.Native.Nat.{ℕ, _+_, _-_, _≤_, _<_}
 use mathlib.Core.Path.{_≡_, refl, sym, _∙_}
 use mathlib.Core.Bool.{Bool, true, false, cond, not, true≢false}
@@ -72,7 +73,8 @@ record Sealed (k : Lock) (past : List ℕ) : Type 0 where
   pending : k .pending ≡ waiting past
   last : getD past 0 0 ≤ maxWord
 
--- k is what a sealed lock becomes by the words `now` after the words `past`: unsealed exactly by the key, and otherwise sealed after them all
+-- k is what a sealed lock becomes by the words `now` after the words `past`: unsealed exactly by
+-- the key, and otherwise sealed after them all
 record Becomes (l : Layout) (image past now : List ℕ) (k : Lock) : Type 0 where
   by-key : not (eqb (k .mode) sealed) ≡ entersKey l image now past
   or-sealed : not (eqb (k .mode) sealed) ≡ false → Sealed k (now ++ past)

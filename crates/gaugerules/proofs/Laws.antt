@@ -1,4 +1,5 @@
--- The claims of specs/, proved: what crates above cite. Each proof stands with the laws that it rests on.
+-- The claims of specs/, proved: what crates above cite. Each proof stands with the laws that it
+-- rests on.
 pub use Rattle.gaugerules.proofs.ByteLaws.{refused-byte, bytes-stand, only-commit}
 pub use Rattle.gaugerules.proofs.ErrorLaws.{byte-error, byte-errors, info-loads}
 pub use Rattle.gaugerules.proofs.ValidLaws.{power-on-valid, byte-good, write-good}

@@ -1,4 +1,5 @@
--- Laws of the view of what is loaded: what a load puts there, and the refusals of a window's byte by it.
+-- Laws of the view of what is loaded: what a load puts there, and the refusals of a window's byte
+-- by it.
 use Prim.Native.Nat.{ℕ, _-_, _/_, _%_, _≤_, _<_}
 use mathlib.Core.Path.{_≡_}
 use mathlib.Core.Bool.{true, false}

@@ -1,5 +1,6 @@
--- Demand 3: an invariant of two gauges in one sealed state over two images, kept by a byte, by a write, by a call, and so along a script.
--- It is kept since a sealed gauge loads the manufacturer info blocks alone, where the images agree, and stores into blocks B and C alone.
+-- Demand 3: an invariant of two gauges in one sealed state over two images, kept by a byte, by a
+-- write, by a call, and so along a script. It is kept since a sealed gauge loads the manufacturer
+-- info blocks alone, where the images agree, and stores into blocks B and C alone.
 use Prim.Native.Nat.{ℕ, _+_, _-_, _<_}
 use mathlib.Core.Path.{_≡_, refl, sym, ap, _∙_}
 use mathlib.Core.Bool.{true, false, cond, true≢false}

@@ -1,5 +1,5 @@
--- How a choice of the rules is answered where a call gave what is tested or what is returned: beside flashrules' `picks` and `calls`. k is
--- what the call gave, and j what the rule names.
+-- How a choice of the rules is answered where a call gave what is tested or what is returned:
+-- beside flashrules' `picks` and `calls`. k is what the call gave, and j what the rule names.
 use Prim.Native.Nat.{ℕ}
 use mathlib.Core.Path.{_≡_, refl, sym, _∙_}
 use mathlib.Core.Bool.{true, false, cond, not}

@@ -1,5 +1,5 @@
--- Laws of a transaction: the turns of a run over its bytes, by what the first byte did; its end after a control word; and what a call has
--- that is not refused as a whole.
+-- Laws of a transaction: the turns of a run over its bytes, by what the first byte did; its end
+-- after a control word; and what a call has that is not refused as a whole.
 use Prim.Native.Nat.{ℕ, _+_, _≤_}
 use mathlib.Core.Path.{_≡_, refl}
 use mathlib.Core.Bool.{true, false, true≢false}

@@ -1,4 +1,5 @@
--- Layouts that mean the same are the same to every rule of the gauge: each asks of the layout only what the lookups answer.
+-- Layouts that mean the same are the same to every rule of the gauge: each asks of the layout only
+-- what the lookups answer.
 use Prim.Native.Nat.{ℕ, _+_, _-_}
 use mathlib.Core.Path.{_≡_, refl, ap, _∙_}
 use mathlib.Core.Bool.{cond}

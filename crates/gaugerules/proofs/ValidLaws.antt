@@ -1,5 +1,6 @@
--- A valid gauge stays valid: every change that a byte makes keeps each part of `valid`, and so do the bytes of a write. Bytes are at most 255, so
--- words fit 16 bits; a block is loaded only where the lookup finds it, so it exists; a commit keeps the image's length, so the layout still fits.
+-- A valid gauge stays valid: every change that a byte makes keeps each part of `valid`, and so do
+-- the bytes of a write. Bytes are at most 255, so words fit 16 bits; a block is loaded only where
+-- the lookup finds it, so it exists; a commit keeps the image's length, so the layout still fits.
 use Prim.Native.Nat.{ℕ, zero, suc, _+_, _-_, _≤_, _<_}
 use mathlib.Core.Path.{_≡_, refl, sym, _∙_}
 use mathlib.Core.Bool.{true, false, true≢false}

@@ -1,4 +1,5 @@
--- Laws of a whole write: it meets 0x60 once or not at all, so that it commits as that byte does; and it is its bytes, one by one.
+-- Laws of a whole write: it meets 0x60 once or not at all, so that it commits as that byte does;
+-- and it is its bytes, one by one.
 use Prim.Native.Nat.{ℕ, zero, suc, _+_, _-_, _≤_, _<_}
 use mathlib.Core.Path.{_≡_, refl, sym, ap, _∙_}
 use mathlib.Core.Bool.{true, false, cond}
@@ -41,7 +42,8 @@ byte-commits l image g r b o at =
     let rule = commit-rule l image g b (o .fits) (o .valid) in
     rw at (λ e. on-test (commits g b) (λ c. (c, rule .0 c .1)) (λ c. absurd (rule .1 c .0 e)))
 
--- what is claimed of a run over bs, before whose 0x60 m bytes come: the byte there is accepted if more than these are
+-- what is claimed of a run over bs, before whose 0x60 m bytes come: the byte there is accepted if
+-- more than these are
 record Runs (l : Layout) (image : List ℕ) (g : Gauge) (n m : ℕ) (bs : List ℕ) (w : Outcome Written (List ℕ)) (met : Gauge) : Type 0 where
   reached : n + m < w .answer .accepted → (commits met (getD bs m 0) ≡ true) × Committed l image met (w .lent)
   not-reached : (n + m < w .answer .accepted → ⊥) → w .lent ≡ image

@@ -1,7 +1,8 @@
--- A block of the data flash through the registers, as a host reads and writes one: 0 at 0x61, class and block at 0x3E,
--- bytes at 0x40 on, the checksum at 0x60. Every byte of it is accepted, in unsealed and in full access alike. Document
--- 01, "The parameter desk": "a full access gauge .. that loads the block, writes them and commits".
--- proofs/Laws.antt has a proof of each claim, under its name in small letters.
+-- A block of the data flash through the registers, as a host reads and writes one: 0 at 0x61, class
+-- and block at 0x3E, bytes at 0x40 on, the checksum at 0x60. Every byte of it is accepted, in
+-- unsealed and in full access alike. Document 01, "The parameter desk": "a full access gauge ..
+-- that loads the block, writes them and commits". proofs/Laws.antt has a proof of each claim, under
+-- its name in small letters.
 use Prim.Native.Nat.{ℕ, _+_, _≤_}
 use mathlib.Core.Path.{_≡_}
 use mathlib.Core.Bool.{true, false}
@@ -73,8 +74,8 @@ ReadBlock =
 
 -- ---- a block is written
 
--- class and block, the bytes, the checksum: three writes, each accepted whole, and the image that they leave. Mode
--- and general access stay, so that the next block can follow
+-- class and block, the bytes, the checksum: three writes, each accepted whole, and the image that
+-- they leave. Mode and general access stay, so that the next block can follow
 pub record BlockWrites (l : Layout) (image : List ℕ) (g : Gauge) (i b o : ℕ) (bs to : List ℕ) : Type 0 where
   pub select : write l image g dataFlashClass (i ∷ b ∷ []) ≡ outcome (written 0 2 (blockSelected l image g i b)) image
   pub edit : write l image (blockSelected l image g i b) (blockData + o) bs
@@ -85,8 +86,8 @@ pub record BlockWrites (l : Layout) (image : List ℕ) (g : Gauge) (i b o : ℕ)
   pub access : generalAccess (blockEdited l image g i b o bs) ≡ true
   pub good : Good l to (blockEdited l image g i b o bs)
 
--- any bytes that fit at any place of any block that the lookup finds: the image then has them there, and is else what
--- it was
+-- any bytes that fit at any place of any block that the lookup finds: the image then has them
+-- there, and is else what it was
 abbrev pub WriteBlock : Type 0
 WriteBlock =
     (l : Layout) (image : List ℕ) (g : Gauge) (i b s k : ℕ) → Good l image g → generalAccess g ≡ true → i ≤ maxByte

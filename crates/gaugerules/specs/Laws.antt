@@ -1,5 +1,6 @@
--- What is claimed of the rules, beyond the rules; demand 3 has a file of its own, specs/Noninterference.antt.
--- proofs/Laws.antt has a proof of each claim, under its name in small letters.
+-- What is claimed of the rules, beyond the rules; demand 3 has a file of its own,
+-- specs/Noninterference.antt. proofs/Laws.antt has a proof of each claim, under its name in small
+-- letters.
 use Prim.Native.Nat.{ℕ, _+_, _-_, _≤_, _<_}
 use mathlib.Core.Path.{_≡_}
 use mathlib.Core.Logic.{_⊎_}
@@ -30,7 +31,8 @@ use Rattle.gaugerules.specs.declared.answer.Written.{Written}
 
 -- ---- a valid gauge over an image of its layout stays so
 
--- the gauge is valid, and the image is one of the layout and of bytes: no later call is refused with 10 or 15
+-- the gauge is valid, and the image is one of the layout and of bytes: no later call is refused
+-- with 10 or 15
 pub record Good (l : Layout) (image : List ℕ) (g : Gauge) : Type 0 where
   pub fits : fits l (length image) ≡ true
   pub valid : valid l g ≡ true
@@ -57,14 +59,15 @@ WriteLength =
 
 -- ---- refusals
 
--- demand 1: "A refused byte alters nothing, the bytes before it stand, a refused read leaves the buffer untouched."
+-- demand 1: "A refused byte alters nothing, the bytes before it stand, a refused read leaves the
+-- buffer untouched."
 abbrev pub RefusedByte : Type 0
 RefusedByte =
     (l : Layout) (image : List ℕ) (g : Gauge) (r byte : ℕ) → let s = writeByte l image g r byte in
     (s .answer .error ≡ 0 → ⊥) → (s .answer .gauge ≡ g) × (s .lent ≡ image)
 
--- past the checks of the call, the bytes that were accepted, sent alone, are all accepted and leave the same gauge
--- and image
+-- past the checks of the call, the bytes that were accepted, sent alone, are all accepted and leave
+-- the same gauge and image
 abbrev pub BytesStand : Type 0
 BytesStand =
     (l : Layout) (image : List ℕ) (g : Gauge) (r : ℕ) (bytes : List ℕ) → let w = writeBytes l image g r 0 bytes in
@@ -85,8 +88,8 @@ ReadAccepted =
 
 -- ---- which error a byte has
 
--- 01: "Each is given when its row says so and never else.", "2 to 9 answer written bytes only": of any gauge over an
--- image of the layout
+-- 01: "Each is given when its row says so and never else.", "2 to 9 answer written bytes only": of
+-- any gauge over an image of the layout
 abbrev pub ByteError : Type 0
 ByteError =
     (l : Layout) (image : List ℕ) (g : Gauge) (r byte : ℕ) → fits l (length image) ≡ true
@@ -111,8 +114,8 @@ InfoLoads =
 abbrev pub commits : Gauge → ℕ → Bool
 commits g byte = and (not (noneLoaded g) ∷ not (isProtected g) ∷ eqb byte (checksum (g .window)) ∷ [])
 
--- image′ is what a commit leaves: the loaded block, which has bytes, holds the window's first ones, and every other
--- byte is what it was
+-- image′ is what a commit leaves: the loaded block, which has bytes, holds the window's first ones,
+-- and every other byte is what it was
 pub record Committed (l : Layout) (image : List ℕ) (g : Gauge) (image′ : List ℕ) : Type 0 where
   pub class : ℕ
   pub block : ℕ
@@ -140,8 +143,8 @@ OnlyCommit =
 abbrev pub Reached : ℕ → ℕ → Type 0
 Reached r n = (r ≤ blockDataChecksum) × (blockDataChecksum < r + n)
 
--- a whole write: the image changes only if 0x60 was reached and accepted, and then as the commit of that byte leaves
--- it. The gauge that the byte met is the one that the bytes before it left
+-- a whole write: the image changes only if 0x60 was reached and accepted, and then as the commit of
+-- that byte leaves it. The gauge that the byte met is the one that the bytes before it left
 abbrev pub WriteCommits : Type 0
 WriteCommits =
     (l : Layout) (image : List ℕ) (g : Gauge) (r : ℕ) (bytes : List ℕ) → Bytes bytes → Good l image g

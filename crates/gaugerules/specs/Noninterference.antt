@@ -1,6 +1,6 @@
--- Demand 3: two sealed gauges with equal layouts and manufacturer info blocks cannot be told apart; and what unseals
--- a gauge. Document 01, "Two gauges, one script". proofs/Laws.antt has a proof of each claim, under its name in small
--- letters.
+-- Demand 3: two sealed gauges with equal layouts and manufacturer info blocks cannot be told apart;
+-- and what unseals a gauge. Document 01, "Two gauges, one script". proofs/Laws.antt has a proof of
+-- each claim, under its name in small letters.
 use Prim.Native.Nat.{ℕ, _<_}
 use mathlib.Core.Path.{_≡_}
 use mathlib.Core.Bool.{true, false}
@@ -35,9 +35,9 @@ pub record Kept (l : Layout) (start image : List ℕ) : Type 0 where
 
 -- ---- two devices under one script
 
--- they began with the images start₁ and start₂: as long as no call unseals either, the replies are equal, and after
--- the call the images agree and each is kept; and so on with the rest of the script. The layouts mean the same, so
--- that l₁ tells where the blocks of both lie
+-- they began with the images start₁ and start₂: as long as no call unseals either, the replies are
+-- equal, and after the call the images agree and each is kept; and so on with the rest of the
+-- script. The layouts mean the same, so that l₁ tells where the blocks of both lie
 abbrev pub Indistinguishable : Layout → Layout → List ℕ → List ℕ → Device → Device → List Call → Type 0
 Indistinguishable l₁ l₂ start₁ start₂ d₁ d₂ [] = Unit
 Indistinguishable l₁ l₂ start₁ start₂ d₁ d₂ (c ∷ cs) =
@@ -49,15 +49,16 @@ Indistinguishable l₁ l₂ start₁ start₂ d₁ d₂ (c ∷ cs) =
     × Kept l₁ start₂ (afterCall l₂ d₂ c .image)
     × Indistinguishable l₁ l₂ start₁ start₂ (afterCall l₁ d₁ c) (afterCall l₂ d₂ c) cs
 
--- two gauges in one valid sealed state, over images that agree, of layouts that mean the same; and any script
+-- two gauges in one valid sealed state, over images that agree, of layouts that mean the same; and
+-- any script
 abbrev pub SealedNoninterference : Type 0
 SealedNoninterference =
     (l₁ l₂ : Layout) (image₁ image₂ : List ℕ) (g : Gauge) → SameClasses l₁ l₂ → fits l₁ (length image₁) ≡ true
     → fits l₂ (length image₂) ≡ true → valid l₁ g ≡ true → isSealed g ≡ true → Agree l₁ image₁ image₂
     → (cs : List Call) → Indistinguishable l₁ l₂ image₁ image₂ (device g image₁) (device g image₂) cs
 
--- demand 3: "Two sealed gauges with equal layouts and manufacturer blocks, whatever else their flash holds", from
--- power-on with home sealed
+-- demand 3: "Two sealed gauges with equal layouts and manufacturer blocks, whatever else their
+-- flash holds", from power-on with home sealed
 abbrev pub Noninterference : Type 0
 Noninterference =
     (l₁ l₂ : Layout) (image₁ image₂ : List ℕ) → SameClasses l₁ l₂ → fits l₁ (length image₁) ≡ true
@@ -72,8 +73,8 @@ abbrev pub CallBytes : Call → Type 0
 CallBytes (toWrite r bytes) = Bytes bytes
 CallBytes (toRead r n buffer) = Unit
 
--- a device that has obeyed the words `past`, the last one first, under a script: a call unseals it exactly if it
--- enters the key; and if it does not, so on with the rest of the script
+-- a device that has obeyed the words `past`, the last one first, under a script: a call unseals it
+-- exactly if it enters the key; and if it does not, so on with the rest of the script
 abbrev pub ByKeyAlone : Layout → Device → List ℕ → List Call → Type 0
 ByKeyAlone l d past [] = Unit
 ByKeyAlone l d past (c ∷ cs) =
@@ -81,6 +82,7 @@ ByKeyAlone l d past (c ∷ cs) =
     → (unseals l d c ≡ entersKey l (d .image) (obeyed l d c) past)
     × (unseals l d c ≡ false → ByKeyAlone l (afterCall l d c) (obeyed l d c ++ past) cs)
 
--- 01: "From this start that is: a byte taken at 0x01 makes a word, another word was obeyed before it, .."
+-- 01: "From this start that is: a byte taken at 0x01 makes a word, another word was obeyed before
+-- it, .."
 abbrev pub UnsealsByKey : Type 0
 UnsealsByKey = (l : Layout) (image : List ℕ) (cs : List Call) → ByKeyAlone l (device (powerOn bootSealed) image) [] cs

@@ -1,4 +1,5 @@
--- A read. Document 01, "Transactions", "Reads: ..": it changes nothing but the buffer that is lent for the answer.
+-- A read. Document 01, "Transactions", "Reads: ..": it changes nothing but the buffer that is lent
+-- for the answer.
 use Prim.Native.Nat.{ℕ, zero, suc, _+_, _/_, _%_}
 use mathlib.Core.Bool.{Bool, cond}
 use mathlib.Core.List.{List, [], _∷_, _++_}
@@ -20,8 +21,8 @@ use Rattle.gaugerules.specs.declared.answer.Reading.{Reading}
 abbrev pub unlessSealed : Gauge → ℕ → ℕ
 unlessSealed g x = cond (isSealed g) 0 x
 
--- 01: "0x00, 0x01 the result, low byte first; 0x3E class and 0x61 BlockDataControl, both 0 when sealed; 0x3F block;
--- 0x40 to 0x5F window; 0x60 its checksum; every other register 0"
+-- 01: "0x00, 0x01 the result, low byte first; 0x3E class and 0x61 BlockDataControl, both 0 when
+-- sealed; 0x3F block; 0x40 to 0x5F window; 0x60 its checksum; every other register 0"
 unfoldable pub readAt : Register → Gauge → ℕ
 readAt Register.ControlLow g = g .result % 256
 readAt Register.ControlHigh g = g .result / 256

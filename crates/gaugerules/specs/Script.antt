@@ -1,5 +1,5 @@
--- Scripts: a device is a gauge with the image that it is lent, a script is a list of calls on it. Document 01, "Two
--- gauges, one script".
+-- Scripts: a device is a gauge with the image that it is lent, a script is a list of calls on it.
+-- Document 01, "Two gauges, one script".
 use Prim.Native.Nat.{ℕ, _+_}
 use mathlib.Core.Bool.{Bool, false, cond, not}
 use mathlib.Core.List.{List, [], _∷_}
@@ -23,15 +23,15 @@ pub record Device : Type 0 where
 abbrev pub device : Gauge → List ℕ → Device
 device g image = record { gauge = g; image = image }
 
--- 01: "The calls of demand 3 are the write and the read.", "The list holds every register, every count, every byte to
--- be written and every reply room": a write at a register of its bytes; a read at a register of a count, into a
--- buffer
+-- 01: "The calls of demand 3 are the write and the read.", "The list holds every register, every
+-- count, every byte to be written and every reply room": a write at a register of its bytes; a read
+-- at a register of a count, into a buffer
 pub data Call : Type 0 where
   toWrite : ℕ → List ℕ → Call
   toRead : ℕ → ℕ → List ℕ → Call
 
--- 01: "Compared are the refusal number, the count taken and, for a read, the room afterwards, with the bytes past the
--- answer."
+-- 01: "Compared are the refusal number, the count taken and, for a read, the room afterwards, with
+-- the bytes past the answer."
 pub data Reply : Type 0 where
   ofWrite : ℕ → ℕ → Reply
   ofRead : Outcome Reading (List ℕ) → Reply
@@ -51,15 +51,16 @@ unfoldable pub afterCalls : Layout → Device → List Call → Device
 afterCalls l d [] = d
 afterCalls l d (c ∷ cs) = afterCalls l (afterCall l d c) cs
 
--- 01: "A write opens a sealed gauge when that gauge is no longer sealed after it, even if a later byte of it is
--- refused."
+-- 01: "A write opens a sealed gauge when that gauge is no longer sealed after it, even if a later
+-- byte of it is refused."
 unfoldable pub unseals : Layout → Device → Call → Bool
 unseals l d c = and (isSealed (d .gauge) ∷ not (isSealed (afterCall l d c .gauge)) ∷ [])
 
--- ---- 01's other wording of it: "a byte taken at 0x01 makes a word, another word was obeyed before it, .."
+-- ---- 01's other wording of it: "a byte taken at 0x01 makes a word, another word was obeyed before
+-- it, .."
 
--- the word that bytes make which were taken at r, r + 1 and so on, or none, since they pass 0x01 once or not at all;
--- `low` is the low control byte before them
+-- the word that bytes make which were taken at r, r + 1 and so on, or none, since they pass 0x01
+-- once or not at all; `low` is the low control byte before them
 unfoldable pub made : ℕ → ℕ → List ℕ → List ℕ
 made low r [] = []
 made low r (b ∷ bs) =
@@ -76,8 +77,8 @@ obeyed l d (toRead r n buffer) = []
 abbrev pub mayBeKey : ℕ → Bool
 mayBeKey w = and (not (eqb w statusWord) ∷ not (eqb w sealWord) ∷ not (eqb w resetWord) ∷ [])
 
--- "and these two, as sent, are that gauge's own unseal key": the word that a call makes, `now`, and the last one of
--- `past`
+-- "and these two, as sent, are that gauge's own unseal key": the word that a call makes, `now`, and
+-- the last one of `past`
 unfoldable pub entersKey : Layout → List ℕ → List ℕ → List ℕ → Bool
 entersKey l image [] past = false
 entersKey l image (w ∷ now) [] = false

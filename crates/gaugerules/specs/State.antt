@@ -1,5 +1,6 @@
--- The state of a gauge: named numbers, tests, and the changes that the rules make. Document 01, "The gauge record".
--- A field that is added to the record is added to the changes here and to `inRange` of specs/Valid.antt.
+-- The state of a gauge: named numbers, tests, and the changes that the rules make. Document 01,
+-- "The gauge record". A field that is added to the record is added to the changes here and to
+-- `inRange` of specs/Valid.antt.
 use Prim.Native.Nat.{ℕ, _+_, _*_, _/_, _%_}
 use mathlib.Core.Bool.{Bool, true, false, cond}
 use mathlib.Core.List.{List}
@@ -147,7 +148,8 @@ withWindow g x =
 
 -- ---- power-on, restart, load and unload
 
--- 01: "Home sealed starts sealed, home open starts in full access." Any other number is taken as sealed
+-- 01: "Home sealed starts sealed, home open starts in full access." Any other number is taken as
+-- sealed
 abbrev pub bootMode : ℕ → ℕ
 bootMode boot = cond (eqb boot bootOpen) fullAccess sealed
 
@@ -158,7 +160,8 @@ bootOf boot = cond (eqb boot bootOpen) bootOpen bootSealed
 abbrev pub powerOn : ℕ → Gauge
 powerOn boot = gauge (bootMode boot) (bootOf boot) 0 noWord 0 controlInfo 0 0 noBlock zeroWindow
 
--- 01: "record becomes that of power-on with ..": what sealing and reset leave of a gauge. Nothing of it outlasts them
+-- 01: "record becomes that of power-on with ..": what sealing and reset leave of a gauge. Nothing
+-- of it outlasts them
 abbrev pub restart : Gauge → ℕ → Gauge
 restart g boot = powerOn boot
 
@@ -166,6 +169,7 @@ restart g boot = powerOn boot
 abbrev pub unload : Gauge → Gauge
 unload g = withWindow (withLoaded (withBlock g 0) noBlock) zeroWindow
 
--- 01: "Loading sets the block register to the byte written." Block b of class i, whose bytes as loaded are w
+-- 01: "Loading sets the block register to the byte written." Block b of class i, whose bytes as
+-- loaded are w
 abbrev pub load : Gauge → ℕ → ℕ → ℕ → List ℕ → Gauge
 load g byte i b w = withWindow (withLoaded (withBlock g byte) (packed i b)) w

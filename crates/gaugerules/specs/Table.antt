@@ -1,6 +1,6 @@
--- The rows 2 to 9 of document 01's table, "Numbers of the refusals", for one byte of a write: each row as a test of
--- the gauge, the register's number and the byte, in the order of "then byte by byte 2, 3, 9, 4, 5, 6, 7, 8".
--- specs/Laws.antt claims that the rules keep to it (`ByteError`).
+-- The rows 2 to 9 of document 01's table, "Numbers of the refusals", for one byte of a write: each
+-- row as a test of the gauge, the register's number and the byte, in the order of "then byte by
+-- byte 2, 3, 9, 4, 5, 6, 7, 8". specs/Laws.antt claims that the rules keep to it (`ByteError`).
 use Prim.Native.Nat.{ℕ}
 use mathlib.Core.Bool.{Bool, true, false, cond, not}
 use mathlib.Core.List.{List, [], _∷_}

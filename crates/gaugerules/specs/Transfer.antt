@@ -1,5 +1,6 @@
--- Block transfer: what a byte at 0x3E, 0x3F, 0x40 to 0x5F, 0x60 and 0x61 does. Document 01, "Transactions", the table
--- of bytes written; the refusals of a byte in the order 3, 9, 4, 5, 6, 7, 8.
+-- Block transfer: what a byte at 0x3E, 0x3F, 0x40 to 0x5F, 0x60 and 0x61 does. Document 01,
+-- "Transactions", the table of bytes written; the refusals of a byte in the order 3, 9, 4, 5, 6, 7,
+-- 8.
 use Prim.Native.Nat.{ℕ, _-_}
 use mathlib.Core.Bool.{Bool, false, cond, not}
 use mathlib.Core.List.{List, [], _∷_, _++_}
@@ -77,7 +78,8 @@ commitTests l image g byte = editTests g ++ ((not (eqb byte (checksum (g .window
 unfoldable pub commitError : Layout → List ℕ → Gauge → ℕ → ℕ
 commitError l image g byte = firstError (commitTests l image g byte)
 
--- 01: "A commit copies the window's bytes into the loaded block, as many as that block has; window and loading stay."
+-- 01: "A commit copies the window's bytes into the loaded block, as many as that block has; window
+-- and loading stay."
 unfoldable pub committed : Layout → List ℕ → Gauge → List ℕ
 committed l image g = ifLoaded (loadedOf (g .loaded)) image (λ i b. storeBlock l image i b (g .window))
 

@@ -1,4 +1,5 @@
--- Which gauges are valid for a layout (document 01: sound). Document 01, "The gauge record", "A record is sound ..".
+-- Which gauges are valid for a layout (document 01: sound). Document 01, "The gauge record", "A
+-- record is sound ..".
 use Prim.Native.Nat.{ℕ}
 use mathlib.Core.Bool.{Bool, true, false, cond}
 use mathlib.Core.List.{List, [], _∷_}

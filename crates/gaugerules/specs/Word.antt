@@ -63,11 +63,13 @@ keyLength = 4
 abbrev pub asSent : ℕ → ℕ → List ℕ
 asSent u w = u % 256 ∷ u / 256 ∷ w % 256 ∷ w / 256 ∷ []
 
--- 01: ".. against the four bytes in flash order", which begin at `at`: equal, so that they differ in no place
+-- 01: ".. against the four bytes in flash order", which begin at `at`: equal, so that they differ
+-- in no place
 unfoldable pub isKey : List ℕ → ℕ → ℕ → ℕ → Bool
 isKey bs at u w = eqb (differing (take keyLength (drop at bs)) (asSent u w)) 0
 
--- 01: "if sealed (or unsealed) .. the unseal key (or full access key)", "mode becomes unsealed (or full access)"
+-- 01: "if sealed (or unsealed) .. the unseal key (or full access key)", "mode becomes unsealed (or
+-- full access)"
 abbrev pub keyWanted : Gauge → ℕ
 keyWanted g = cond (isSealed g) unsealKey fullAccessKey
 
@@ -81,8 +83,8 @@ waits g w = withPending (withResult g 0) w
 abbrev pub opened : Gauge → Gauge
 opened g = withMode (waits g noWord) (modeOpened g)
 
--- 01: "if sealed (or unsealed) and a word is waiting, .. Equal: .. Otherwise this word waits. In full access none
--- waits."
+-- 01: "if sealed (or unsealed) and a word is waiting, .. Equal: .. Otherwise this word waits. In
+-- full access none waits."
 unfoldable pub keyWord : Layout → List ℕ → Gauge → ℕ → Gauge
 keyWord l image g w =
     cond (isFullAccess g) (waits g noWord)
@@ -95,8 +97,8 @@ keyWord l image g w =
 abbrev pub withStatus : Gauge → Gauge
 withStatus g = withResult (withPending g noWord) (status g)
 
--- 01: "0x0020: record becomes that of power-on with home sealed. 0x0041: record becomes that of power-on with its own
--- home."
+-- 01: "0x0020: record becomes that of power-on with home sealed. 0x0041: record becomes that of
+-- power-on with its own home."
 unfoldable pub obey : Layout → List ℕ → Gauge → ℕ → Gauge
 obey l image g w =
     cond (eqb w statusWord) (withStatus g)

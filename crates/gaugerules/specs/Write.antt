@@ -1,5 +1,5 @@
--- A write. Document 01, "Transactions": "A write takes its bytes one by one at r, r+1 and so on. The first refused
--- byte ends it."
+-- A write. Document 01, "Transactions": "A write takes its bytes one by one at r, r+1 and so on.
+-- The first refused byte ends it."
 use Prim.Native.Nat.{ℕ, _+_}
 use mathlib.Core.Bool.{Bool, true, cond, not}
 use mathlib.Core.List.{List, [], _∷_}

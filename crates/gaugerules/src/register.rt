@@ -1,4 +1,5 @@
-// The registers that take part in block transfer, by document 000's names. Every other one reads 0 and takes no write.
+// The registers that take part in block transfer, by document 000's names. Every other one reads 0
+// and takes no write.
 pub const CONTROL_LOW: usize = 0x00;
 
 pub const CONTROL_HIGH: usize = 0x01;

@@ -1,5 +1,5 @@
-// The state of a gauge (document 01: the gauge record). Numbers only, so that a host program can hold it and any record whatever
-// can be passed; whether one is valid is a test.
+// The state of a gauge (document 01: the gauge record). Numbers only, so that a host program can
+// hold it and any record whatever can be passed; whether one is valid is a test.
 use flashrules::lookup::BLOCK_SIZE;
 
 // Modes.

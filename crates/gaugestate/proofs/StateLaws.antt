@@ -1,4 +1,5 @@
--- Laws of the state: records that are put together with what calls gave, and the tests of a valid gauge.
+-- Laws of the state: records that are put together with what calls gave, and the tests of a valid
+-- gauge.
 use Prim.Native.Nat.{ℕ, _+_, _≤_, _<_}
 use mathlib.Core.Path.{_≡_}
 use mathlib.Core.Bool.{Bool, true, false, cond}

@@ -1,4 +1,5 @@
-// Whether a gauge is valid for a layout (document 01: sound). Numbers that their type keeps in range are not tested.
+// Whether a gauge is valid for a layout (document 01: sound). Numbers that their type keeps in
+// range are not tested.
 use crate::state::loaded;
 use flashrules::layout::INFO_CLASS;
 use flashrules::layout::Layout;

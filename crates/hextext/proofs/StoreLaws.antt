@@ -1,4 +1,5 @@
--- Stores one after the other into a buffer, by the library's `sets`: what every writer's proof cites.
+-- Stores one after the other into a buffer, by the library's `sets`: what every writer's proof
+-- cites.
 use Prim.Native.Nat.{ℕ, suc, _+_, _≤_}
 use mathlib.Core.Path.{_≡_, refl, sym, _∙_}
 use mathlib.Core.List.{List, [], _∷_, _++_}

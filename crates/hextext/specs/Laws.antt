@@ -1,4 +1,5 @@
--- What the definitions amount to. proofs/Laws.antt has a proof of each claim, under its name in small letters.
+-- What the definitions amount to. proofs/Laws.antt has a proof of each claim, under its name in
+-- small letters.
 use Prim.Native.Nat.{ℕ, _+_, _*_, _≤_}
 use mathlib.Core.Path.{_≡_}
 use mathlib.Core.List.{List}

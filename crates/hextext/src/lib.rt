@@ -1,6 +1,7 @@
-// Bytes as upper-case hexadecimal text in a lent buffer, and back. A buffer is written from an index on, and every contract says
-// what it then holds by the library's `sets buffer at xs`: the buffer with xs stored from `at` on, the rest as it was. What would lie
-// past the buffer's end is not stored, so every function here answers every argument.
+// Bytes as upper-case hexadecimal text in a lent buffer, and back. A buffer is written from an
+// index on, and every contract says what it then holds by the library's `sets buffer at xs`: the
+// buffer with xs stored from `at` on, the rest as it was. What would lie past the buffer's end is
+// not stored, so every function here answers every argument.
 ghost use mathlib.Core.Path.{_≡_};
 ghost use mathlib.Core.List.{[], _∷_};
 ghost use Prim.Native.Nat.{_+_, _*_, _<_};
@@ -82,7 +83,8 @@ pub fn encode_line(bytes: &[u8], buffer: &mut [u8], at: usize)
     store(LINE_FEED, buffer, at + 2 * bytes.len());
 }
 
-// The bytes that a text's pairs of digits stand for; an odd last byte of the text counts for nothing.
+// The bytes that a text's pairs of digits stand for; an odd last byte of the text counts for
+// nothing.
 pub fn decode(text: &[u8], buffer: &mut [u8], at: usize)
     ensures { λ _. ⌜ now (buffer .exit) ≡ sets (now (buffer .entry)) at (unhex (now (text .entry))) ⌝ }
 {

@@ -1,4 +1,5 @@
--- The candidate as the code makes it: the width of a line, the layout with a line more, one turn of the loop, and its end.
+-- The candidate as the code makes it: the width of a line, the layout with a line more, one turn of
+-- the loop, and its end.
 use Prim.Native.Nat.{ℕ, suc, _+_, _-_, _*_, _/_, _%_, _≤_, _<_}
 use mathlib.Core.Path.{_≡_, refl, sym, ap, _∙_}
 use mathlib.Core.Bool.{Bool, true, false}
@@ -113,7 +114,8 @@ module _ (l : Layout) where
 
 -- ---- the loop
 
--- what holds at its head: behind n lines, at an index of the text, with so many bytes in front of the buffer
+-- what holds at its head: behind n lines, at an index of the text, with so many bytes in front of
+-- the buffer
 pub record LineAt (x r₀ : List ℕ) (l : Layout) (at out n : ℕ) (r : List ℕ) : Type 0 where
   pub within : n ≤ maxLines
   pub start : at ≤ length x

@@ -1,4 +1,5 @@
-// What a text might hold, with little asked of it: the classes that its lines name, and the bytes that they hold. `parse` judges the candidate.
+// What a text might hold, with little asked of it: the classes that its lines name, and the bytes
+// that they hold. `parse` judges the candidate.
 use flashrules::layout::Layout;
 use flashrules::layout::MAX_CLASSES;
 use flashrules::lookup::BLOCK_SIZE;
@@ -59,7 +60,8 @@ fn line_at(text: &[u8], at: usize) -> Line
     Line { width: 0, next }
 }
 
-// The data bytes of the line at an index, behind class and block number, into a buffer from an index on; answers the class.
+// The data bytes of the line at an index, behind class and block number, into a buffer from an
+// index on; answers the class.
 fn take_line(text: &[u8], at: usize, width: usize, buffer: &mut [u8], out: usize) -> u8
     requires { ⌜ at + 4 + 2 * width ≤ length (now text) ⌝ }
     ensures { λ r. ⌜ r ≡ classByte (drop at (now (text .entry))) ⌝ }

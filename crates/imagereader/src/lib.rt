@@ -1,8 +1,11 @@
-// An image file is parsed and read. Refusals come in the order 10, 14; a refused call leaves the lent buffer untouched.
+// An image file is parsed and read. Refusals come in the order 10, 14; a refused call leaves the
+// lent buffer untouched.
 //
-// Reading takes a candidate for what a text holds, asking hardly anything of it, writes the text of that candidate and compares. So what is
-// accepted is written out as the very same text by construction; order, gaps, checksums, case and line ends are judged by the
-// one function that writes them. No more than 160 lines are looked at, so a text costs its length once, to find line feeds in it.
+// Reading takes a candidate for what a text holds, asking hardly anything of it, writes the text of
+// that candidate and compares. So what is accepted is written out as the very same text by
+// construction; order, gaps, checksums, case and line ends are judged by the one function that
+// writes them. No more than 160 lines are looked at, so a text costs its length once, to find line
+// feeds in it.
 mod candidate;
 
 use crate::candidate::candidate;

@@ -1,4 +1,5 @@
--- Every block of a layout has its line in the text: the line is a part of the text of its class, and that of the text of the image.
+-- Every block of a layout has its line in the text: the line is a part of the text of its class,
+-- and that of the text of the image.
 use Prim.Native.Nat.{ℕ, zero, suc, _+_, _*_, _<_}
 use mathlib.Core.Path.{_≡_, refl, sym}
 use mathlib.Core.Bool.{true, false, true≢false}

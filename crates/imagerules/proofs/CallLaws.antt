@@ -1,4 +1,5 @@
--- Laws of what the calls leave: a write by its error, a read by its error, one behind the other, and layouts that are written alike.
+-- Laws of what the calls leave: a write by its error, a read by its error, one behind the other,
+-- and layouts that are written alike.
 use Prim.Native.Nat.{ℕ, _≤_}
 use mathlib.Core.Path.{_≡_, refl, ap}
 use mathlib.Core.Bool.{true, false}

@@ -1,4 +1,5 @@
--- Laws of the candidate of the text of a class, and of all classes: it has each class once, with all its bytes.
+-- Laws of the candidate of the text of a class, and of all classes: it has each class once, with
+-- all its bytes.
 use Prim.Native.Nat.{ℕ, zero, suc, _+_, _-_, _*_, _%_, _≤_, _<_}
 use mathlib.Core.Path.{_≡_, refl, ap, _∙_}
 use mathlib.Core.Bool.{true, false}

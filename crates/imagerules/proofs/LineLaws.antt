@@ -1,4 +1,5 @@
--- Laws of one line: what is found at the front of a text that begins with a line, and one step of `gather` over it.
+-- Laws of one line: what is found at the front of a text that begins with a line, and one step of
+-- `gather` over it.
 use Prim.Native.Nat.{ℕ, suc, _+_, _*_, _/_, _≤_}
 use mathlib.Core.Path.{_≡_, ap, _∙_}
 use mathlib.Core.Bool.{false}

@@ -1,4 +1,5 @@
--- The round trip of texts: what is written is read back, and what is accepted is written out as the very same text.
+-- The round trip of texts: what is written is read back, and what is accepted is written out as the
+-- very same text.
 use Prim.Native.Nat.{ℕ, zero, suc, _+_, _*_, _≤_}
 use mathlib.Core.Path.{_≡_, refl, sym, ap, _∙_}
 use mathlib.Core.Bool.{true}

@@ -1,4 +1,5 @@
--- Laws of the text of an image: its lines, block by block and class by class, how many there are and how long they are.
+-- Laws of the text of an image: its lines, block by block and class by class, how many there are
+-- and how long they are.
 use Prim.Native.Nat.{ℕ, zero, suc, _+_, _-_, _*_, _≤_, min}
 use mathlib.Core.Path.{_≡_, refl}
 use mathlib.Core.Bool.{true}

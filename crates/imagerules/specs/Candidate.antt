@@ -1,6 +1,6 @@
--- What a text might hold: a candidate that asks little of it. Line feeds are found, and pairs of characters are taken
--- for bytes, whatever they are. specs/File.antt holds the candidate to the text that it would have, so nothing here has
--- to be believed: specs/Laws.antt says what comes out.
+-- What a text might hold: a candidate that asks little of it. Line feeds are found, and pairs of
+-- characters are taken for bytes, whatever they are. specs/File.antt holds the candidate to the
+-- text that it would have, so nothing here has to be believed: specs/Laws.antt says what comes out.
 use Prim.Native.Nat.{ℕ, zero, suc, _+_, _-_, _*_, _/_, _%_}
 use mathlib.Core.Bool.{Bool, cond}
 use mathlib.Core.List.{List, [], _∷_, _++_}
@@ -16,7 +16,8 @@ use Rattle.imagerules.specs.Text.{maxLines}
 
 -- ---- one line: the first of a text
 
--- so many pairs of characters hold so many data bytes: all but class, block and checksum. 0 where it is not 1 to 32
+-- so many pairs of characters hold so many data bytes: all but class, block and checksum. 0 where
+-- it is not 1 to 32
 abbrev pub dataBytes : ℕ → ℕ
 dataBytes n = cond (leb n (blockSize + 3)) (n - 3) 0
 

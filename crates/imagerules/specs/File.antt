@@ -1,5 +1,6 @@
--- The image file: parsed, read and written. Document 01, "Image file", "Numbers of the refusals" 10 and 14, and the
--- order there: "For writing a file: 10, 14. A file is read first to judge it, so a 10 stores nothing; then 14."
+-- The image file: parsed, read and written. Document 01, "Image file", "Numbers of the refusals" 10
+-- and 14, and the order there: "For writing a file: 10, 14. A file is read first to judge it, so a
+-- 10 stores nothing; then 14."
 use Prim.Native.Nat.{ℕ}
 use mathlib.Core.Bool.{Bool, cond}
 use mathlib.Core.List.{List, [], _∷_}

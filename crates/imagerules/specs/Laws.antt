@@ -1,8 +1,8 @@
--- What is claimed of the image file, beyond the definitions. proofs/Laws.antt has a proof of each claim, under its
--- name in small letters.
+-- What is claimed of the image file, beyond the definitions. proofs/Laws.antt has a proof of each
+-- claim, under its name in small letters.
 --
--- `WrittenRead` and `AcceptedText` together say all that `parseImage` is, by `serializeImage` and `fits` alone:
--- specs/Candidate.antt need not be believed.
+-- `WrittenRead` and `AcceptedText` together say all that `parseImage` is, by `serializeImage` and
+-- `fits` alone: specs/Candidate.antt need not be believed.
 use Prim.Native.Nat.{ℕ, _≤_}
 use mathlib.Core.Path.{_≡_}
 use mathlib.Core.Logic.{_↔_}
@@ -51,8 +51,8 @@ pub record IsText (l : Layout) (image x : List ℕ) : Type 0 where
   pub clear : cleared l ≡ l
   pub text : serializeImage l image ≡ x
 
--- what is accepted is written out as the very same text; a text is accepted as a layout and an image exactly if it is
--- their text
+-- what is accepted is written out as the very same text; a text is accepted as a layout and an
+-- image exactly if it is their text
 abbrev pub AcceptedText : Type 0
 AcceptedText = (x : List ℕ) (l : Layout) (image : List ℕ) → (parseImage x ≡ imageFile l image) ↔ IsText l image x
 
@@ -75,7 +75,8 @@ OneOnly =
 
 -- ---- the round trip, as to the calls and their buffers
 
--- a file that was written is read into any second buffer that has room: the whole outcome of the second call
+-- a file that was written is read into any second buffer that has room: the whole outcome of the
+-- second call
 abbrev pub WriteThenRead : Type 0
 WriteThenRead =
     (l : Layout) (image first second : List ℕ) → Fitting l image → let w = write l image first in

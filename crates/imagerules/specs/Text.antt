@@ -9,8 +9,8 @@ use Rattle.flashrules.specs.Lookup.{blockSize}
 use Rattle.flashrules.specs.Image.{asLoaded}
 use Rattle.flashrules.specs.declared.layout.Layout.{Layout}
 
--- 01: "Class, block, the data bytes, checksum. Two upper-case digits a byte, no blanks, each line ended by one line
--- feed.", "The checksum is that of the block as loaded."
+-- 01: "Class, block, the data bytes, checksum. Two upper-case digits a byte, no blanks, each line
+-- ended by one line feed.", "The checksum is that of the block as loaded."
 unfoldable pub line : ℕ → ℕ → List ℕ → List ℕ
 line i b bytes = hexLine (i ∷ b ∷ (bytes ++ (checksum (asLoaded bytes) ∷ [])))
 
@@ -42,7 +42,8 @@ serializeImage l image = classTexts (classes l) image
 
 -- ---- how long it is
 
--- the text of n bytes of a class: two digits a byte, and for each block three bytes more and a line feed
+-- the text of n bytes of a class: two digits a byte, and for each block three bytes more and a line
+-- feed
 abbrev pub classLength : ℕ → ℕ
 classLength n = 2 * n + 7 * blockCount n
 
@@ -50,11 +51,12 @@ abbrev pub textLength : List Class → ℕ
 textLength [] = 0
 textLength (c ∷ cs) = classLength (c .len) + textLength cs
 
--- no text of a valid layout has more lines: 4096 bytes make 128 full blocks, and each of 32 classes may have one that
--- is not full
+-- no text of a valid layout has more lines: 4096 bytes make 128 full blocks, and each of 32 classes
+-- may have one that is not full
 abbrev pub maxLines : ℕ
 maxLines = 160
 
--- and none is longer: two digits for each of 4096 bytes, and seven characters more for each of 160 lines
+-- and none is longer: two digits for each of 4096 bytes, and seven characters more for each of 160
+-- lines
 abbrev pub maxText : ℕ
 maxText = 9312

@@ -1,4 +1,5 @@
--- Laws of the functions that write the text: one line out of its parts, and the loops over blocks and over classes.
+-- Laws of the functions that write the text: one line out of its parts, and the loops over blocks
+-- and over classes.
 use Prim.Native.Nat.{ℕ, _+_, _-_, _*_, _≤_, _<_, min}
 use mathlib.Core.Path.{_≡_, refl, ap, _∙_}
 use mathlib.Core.Bool.{true}
@@ -41,7 +42,8 @@ pub block-put : (i b from n at : ℕ) (bytes r r′ : List ℕ) → n ≡ min bl
 block-put i b from n at bytes r r′ p e =
     rw (rw take-length at (take-part blockSize from (length bytes) (from + n - from) bytes (omega arith))) e
 
--- what holds at the head of the loop: at block b, whose bytes begin at `from` and whose line goes to `at` of the buffer
+-- what holds at the head of the loop: at block b, whose bytes begin at `from` and whose line goes
+-- to `at` of the buffer
 pub record BlockAt (i at₀ : ℕ) (bytes r₀ : List ℕ) (b from at : ℕ) (r : List ℕ) : Type 0 where
   pub place : from ≡ blockSize * b
   pub room : at + classLength (length bytes - from) ≤ length r
@@ -107,7 +109,8 @@ module _ (l : Layout) (k sum : ℕ) (w : Whole l) (e : sum + textLength (drop k 
 
 -- ---- the classes of an image
 
--- the same at class k, whose bytes begin at `from` of the image and whose lines go to `at` of the buffer
+-- the same at class k, whose bytes begin at `from` of the image and whose lines go to `at` of the
+-- buffer
 pub record ClassAt (l : Layout) (image r₀ : List ℕ) (k from at : ℕ) (r : List ℕ) : Type 0 where
   pub whole : Whole l
   pub sized : Sized (drop k (classes l))

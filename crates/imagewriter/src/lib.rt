@@ -1,5 +1,5 @@
-// An image file is written: the text of a layout and its image, into a lent buffer. Refusals come in the order 10, 14; a refused call leaves the
-// buffer untouched.
+// An image file is written: the text of a layout and its image, into a lent buffer. Refusals come
+// in the order 10, 14; a refused call leaves the buffer untouched.
 mod text;
 
 use crate::text::put_text;

@@ -46,7 +46,8 @@ fn put_line(class: u8, block: u8, bytes: &[u8], buffer: &mut [u8], at: usize)
     put_tail(sum, buffer, at + 4 + 2 * bytes.len());
 }
 
-// The line of the block that begins at an index of a class's bytes; answers where the next line goes.
+// The line of the block that begins at an index of a class's bytes; answers where the next line
+// goes.
 fn put_block(class: u8, block: u8, bytes: &[u8], from: usize, buffer: &mut [u8], at: usize) -> usize
     requires { ⌜ (from < length (now bytes)) × (at + (2 * min blockSize (length (now bytes) - from) + 7) ≤ length (now buffer)) ⌝ }
     ensures { λ r. ⌜ r ≡ at + (2 * min blockSize (length (now (bytes .entry)) - from) + 7) ⌝ }
@@ -72,7 +73,8 @@ fn put_class(class: u8, bytes: &[u8], buffer: &mut [u8], at: usize)
     }
 }
 
-// How long the text of a class is that has so many bytes; small enough that 32 of them can be summed.
+// How long the text of a class is that has so many bytes; small enough that 32 of them can be
+// summed.
 fn class_length(n: usize) -> usize
     requires { ⌜ n ≤ 65535 ⌝ }
     ensures { λ r. ⌜ (r ≡ classLength n) × (r ≤ 200000) ⌝ }
@@ -94,7 +96,8 @@ pub(crate) fn text_length(layout: Layout) -> usize
     sum
 }
 
-// The lines of the class that has n bytes of an image, from an index on; answers where the next class's lines go.
+// The lines of the class that has n bytes of an image, from an index on; answers where the next
+// class's lines go.
 fn put_part(class: u8, image: &[u8], from: usize, n: usize, buffer: &mut [u8], at: usize) -> usize
     requires { ⌜ (n ≤ maxClassLength) × (from + n ≤ length (now image)) × (at + classLength n ≤ length (now buffer)) ⌝ }
     ensures { λ r. ⌜ (r ≡ at + classLength n) × (r ≤ length (now (buffer .entry))) ⌝ }

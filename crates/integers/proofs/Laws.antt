@@ -1,7 +1,9 @@
--- What a return puts together of its callees' answers, and the laws of the two loops. The premises are what is known at the place (a `requires`, a
--- part of an invariant, a test, what a callee ensures), so that `search` over a law's name finds them.
+-- What a return puts together of its callees' answers, and the laws of the two loops. The premises
+-- are what is known at the place (a `requires`, a part of an invariant, a test, what a callee
+-- ensures), so that `search` over a law's name finds them.
 --
--- An i64 is passed to a call as bits: what the callee ensures speaks of u, which is `toZ w64 (ofZ w64 v)`, and `u ≡ v` is `toZ-ofZ`.
+-- An i64 is passed to a call as bits: what the callee ensures speaks of u, which is `toZ w64 (ofZ
+-- w64 v)`, and `u ≡ v` is `toZ-ofZ`.
 use Prim.Native.Nat.{ℕ, zero, suc, _+_, _-_, _*_, _/_, _%_, _^_, _≤_, _<_}
 use mathlib.Core.Path.{_≡_, refl}
 use mathlib.Core.Bool.{Bool, true, false}

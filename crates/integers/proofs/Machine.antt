@@ -1,5 +1,5 @@
--- What the machine does with an `i64`, as facts on `mag`, `isNegative` and `integer`: all that is proved about signed arithmetic. Each law is
--- stated as the goal stands at its place.
+-- What the machine does with an `i64`, as facts on `mag`, `isNegative` and `integer`: all that is
+-- proved about signed arithmetic. Each law is stated as the goal stands at its place.
 use Prim.Native.Nat.{ℕ, zero, suc, _-_, _^_, _<_}
 use mathlib.Core.Path.{_≡_, refl, sym, ap, _∙_}
 use mathlib.Core.Bool.{Bool, true, false}

@@ -1,4 +1,5 @@
-// The entries of a layout as numbers to be added up. A loop of this crate widens them where it stands: a call that takes the layout copies it.
+// The entries of a layout as numbers to be added up. A loop of this crate widens them where it
+// stands: a call that takes the layout copies it.
 use flashrules::layout::Layout;
 use flashrules::layout::MAX_CLASSES;
 ghost use mathlib.Core.Path.{_≡_};

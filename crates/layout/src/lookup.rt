@@ -1,5 +1,6 @@
-// Finding a class and a block of a class: where its bytes lie in the image, or document 01's error number. Refusals come in the
-// order 10, 4, 5. The layout is tested at each call: a few passes over the entries in use, at most 32, and no byte of the image.
+// Finding a class and a block of a class: where its bytes lie in the image, or document 01's error
+// number. Refusals come in the order 10, 4, 5. The layout is tested at each call: a few passes over
+// the entries in use, at most 32, and no byte of the image.
 use crate::entry::wide16;
 use crate::valid::fits;
 use crate::valid::valid;
@@ -82,7 +83,8 @@ fn block_in(start: usize, len: usize, block: u8) -> Lookup
     Lookup::Refused(UNKNOWN_BLOCK)
 }
 
-// The place of a block in an image of so many bytes; 10 for the layout or the image's length, then 4, then 5.
+// The place of a block in an image of so many bytes; 10 for the layout or the image's length, then
+// 4, then 5.
 pub fn find_block(layout: Layout, image_len: usize, class: u8, block: u8) -> Lookup
     ensures { λ r. ⌜ r ≡ findBlock layout «image_len» class block ⌝ }
 {

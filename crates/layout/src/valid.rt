@@ -1,5 +1,5 @@
-// Layouts: which classes an image has, in which order and how long. A layout is plain numbers, so a broken one can be
-// passed to every function; `valid` is the test that the others rest on.
+// Layouts: which classes an image has, in which order and how long. A layout is plain numbers, so a
+// broken one can be passed to every function; `valid` is the test that the others rest on.
 use crate::entry::wide8;
 use crate::entry::wide16;
 use crate::lookup::locate;
@@ -16,7 +16,8 @@ ghost use mathlib.Core.Path.{_≡_};
 ghost use Prim.Native.Nat.{_≤_};
 ghost use Rattle.flashrules.specs.Layout.{maxClasses, classes, inOrder, ordered, size, lengthIn, hasFixedClasses, valid, fits};
 
-// Whether one entry keeps the identifiers ascending, its own being at least `lo`, and has a length in range.
+// Whether one entry keeps the identifiers ascending, its own being at least `lo`, and has a length
+// in range.
 fn in_order(lo: usize, id: usize, len: usize) -> bool
     ensures { λ r. ⌜ r ≡ inOrder lo (record { id = id; len = len }) ⌝ }
 {

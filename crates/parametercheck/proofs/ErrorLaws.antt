@@ -1,4 +1,5 @@
--- What the tests of a parameter put together. An i64 that is passed or compared goes there as bits: `toZ w64 (ofZ w64 v)`, which is v (`back`).
+-- What the tests of a parameter put together. An i64 that is passed or compared goes there as bits:
+-- `toZ w64 (ofZ w64 v)`, which is v (`back`).
 use Prim.Native.Nat.{ℕ, _+_, _%_, _≤_, _<_}
 use mathlib.Core.Path.{_≡_, refl}
 use mathlib.Core.Bool.{Bool, true, false, not}

@@ -1,4 +1,5 @@
--- A parameter through the gauge: what a gauge answers and leaves that is powered on open and told to load its block, to read or to write there.
+-- A parameter through the gauge: what a gauge answers and leaves that is powered on open and told
+-- to load its block, to read or to write there.
 use Prim.Native.Nat.{ℕ, _+_, _/_, _%_, _≤_}
 use mathlib.Core.Path.{_≡_, refl}
 use mathlib.Core.Bool.{true}

@@ -1,4 +1,5 @@
--- The claims about parameters: what setting leaves, what is then read, and what the gauge does that is sent the same.
+-- The claims about parameters: what setting leaves, what is then read, and what the gauge does that
+-- is sent the same.
 use Prim.Native.Nat.{ℕ, _+_, _/_, _^_, _≤_, _<_}
 use mathlib.Core.Path.{_≡_, refl, sym, ap, _∙_}
 use mathlib.Core.Logic.{inl, inr, ⊎-elim}

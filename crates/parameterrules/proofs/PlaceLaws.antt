@@ -1,4 +1,5 @@
--- Laws of the place of a parameter: what one has that is not refused, where its bytes lie, and in which block.
+-- Laws of the place of a parameter: what one has that is not refused, where its bytes lie, and in
+-- which block.
 use Prim.Native.Nat.{ℕ, _+_, _-_, _*_, _/_, _%_, _≤_, _<_, min}
 use mathlib.Core.Path.{_≡_}
 use mathlib.Core.Bool.{true, false, true≢false}

@@ -1,9 +1,11 @@
--- Integers in bytes, most significant byte first, of any width, in two's complement or unsigned. Document 01, "The
--- parameter desk": "unsigned or two's complement signed, of 1, 2 or 4 bytes, most significant byte first".
+-- Integers in bytes, most significant byte first, of any width, in two's complement or unsigned.
+-- Document 01, "The parameter desk": "unsigned or two's complement signed, of 1, 2 or 4 bytes, most
+-- significant byte first".
 --
--- An integer is taken as a sign and a magnitude: the magnitude of n is n, and that of -(n + 1) is n (`mag` of
--- lib.Signed). In two's complement the bytes of -(n + 1) are those of n with every bit inverted, so that one definition
--- serves both signs. specs/Laws.antt claims that this is two's complement (`TwosComplement`).
+-- An integer is taken as a sign and a magnitude: the magnitude of n is n, and that of -(n + 1) is n
+-- (`mag` of lib.Signed). In two's complement the bytes of -(n + 1) are those of n with every bit
+-- inverted, so that one definition serves both signs. specs/Laws.antt claims that this is two's
+-- complement (`TwosComplement`).
 use Prim.Native.Nat.{ℕ, zero, suc, _+_, _-_, _*_, _/_, _%_, _^_}
 use mathlib.Core.Bool.{Bool, true, false, cond}
 use mathlib.Core.List.{List, [], _∷_}

@@ -1,5 +1,6 @@
--- The kinds of a parameter. Document 01, "The parameter desk": "Kinds: unsigned or two's complement signed, of 1, 2 or
--- 4 bytes". A kind is a number: how many bytes, and the top bit besides if it is signed.
+-- The kinds of a parameter. Document 01, "The parameter desk": "Kinds: unsigned or two's complement
+-- signed, of 1, 2 or 4 bytes". A kind is a number: how many bytes, and the top bit besides if it is
+-- signed.
 use Prim.Native.Nat.{ℕ, _%_}
 use mathlib.Core.Bool.{Bool, cond}
 use lib.Dec.{eqb, leb}

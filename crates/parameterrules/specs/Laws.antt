@@ -1,5 +1,5 @@
--- What the rules of integers and parameters amount to, claim by claim. proofs/Laws.antt has a proof of each, under its
--- name in small letters.
+-- What the rules of integers and parameters amount to, claim by claim. proofs/Laws.antt has a proof
+-- of each, under its name in small letters.
 use Prim.Native.Nat.{ℕ, suc, _+_, _/_, _%_, _^_, _≤_, _<_}
 use mathlib.Core.Path.{_≡_}
 use mathlib.Core.Logic.{_⊎_}
@@ -59,7 +59,8 @@ SetRefused =
     (l : Layout) (image : List ℕ) (p : Parameter) (v : ℤ) → let s = set l image p v in
     (s .answer ≡ 0 → ⊥) → s .lent ≡ image
 
--- 01: "Setting changes exactly the bytes of that row": they are the value's, and every other byte is what it was
+-- 01: "Setting changes exactly the bytes of that row": they are the value's, and every other byte
+-- is what it was
 pub record Replaced (l : Layout) (image : List ℕ) (p : Parameter) (v : ℤ) (to : List ℕ) : Type 0 where
   pub size : length to ≡ length image
   pub here : take (widthOf (p .kind)) (drop (startIn l p) to) ≡ toBytes (widthOf (p .kind)) v
@@ -92,8 +93,8 @@ SetElsewhere =
 
 -- ---- through the gauge
 
--- what a programmer sends to set bytes of a block: 0 to 0x61, class and block to 0x3E, the bytes to 0x40 on, and the
--- checksum of the window then
+-- what a programmer sends to set bytes of a block: 0 to 0x61, class and block to 0x3E, the bytes to
+-- 0x40 on, and the checksum of the window then
 abbrev pub blockCalls : Layout → List ℕ → ℕ → ℕ → ℕ → List ℕ → List Call
 blockCalls l image i b o bs =
     toWrite blockDataControl (controlFlash ∷ [])
@@ -102,7 +103,8 @@ blockCalls l image i b o bs =
     ∷ toWrite blockDataChecksum (checksum (sets (asLoaded (blockBytes l image i b)) o bs) ∷ [])
     ∷ []
 
--- 01: "the image becomes what a full access gauge leaves that loads the block, writes them and commits"
+-- 01: "the image becomes what a full access gauge leaves that loads the block, writes them and
+-- commits"
 abbrev pub SetByGauge : Type 0
 SetByGauge =
     (l : Layout) (image : List ℕ) (p : Parameter) (v : ℤ) → let s = set l image p v in

@@ -1,5 +1,6 @@
--- Parameters: when one is valid, where its bytes stand, and what reading and setting it answer and leave. Document 01,
--- "The parameter desk", and "Numbers of the refusals": "For the desk: 10, 11, 4, 12, 13."
+-- Parameters: when one is valid, where its bytes stand, and what reading and setting it answer and
+-- leave. Document 01, "The parameter desk", and "Numbers of the refusals": "For the desk: 10, 11,
+-- 4, 12, 13."
 use Prim.Native.Nat.{ℕ, _+_, _%_}
 use mathlib.Core.Bool.{Bool, true, false, cond, not}
 use mathlib.Core.List.{List, [], _∷_, _++_}
@@ -21,7 +22,8 @@ use Rattle.parameterrules.specs.Kind.{widthOf, isSigned, holds}
 use Rattle.parameterrules.specs.declared.parameter.Parameter.{Parameter}
 use Rattle.parameterrules.specs.declared.parameter.ParameterValue.{ParameterValue}
 
--- 01: "A row is sound when lowest is at most highest and both fit the kind."; of a number that is no kind it is not
+-- 01: "A row is sound when lowest is at most highest and both fit the kind."; of a number that is
+-- no kind it is not
 unfoldable pub valid : Parameter → Bool
 valid p =
     and

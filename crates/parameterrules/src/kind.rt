@@ -1,5 +1,6 @@
-// The kinds of a parameter: how many bytes a value has, and SIGNED_BIT besides if it is in two's complement. No other number is a kind, 0 least
-// of all, so that a row which was never filled in is invalid.
+// The kinds of a parameter: how many bytes a value has, and SIGNED_BIT besides if it is in two's
+// complement. No other number is a kind, 0 least of all, so that a row which was never filled in is
+// invalid.
 pub const SIGNED_BIT: u8 = 0x80;
 
 pub const U8: u8 = 1;

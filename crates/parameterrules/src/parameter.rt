@@ -1,5 +1,5 @@
-// A parameter (document 01: a parameter row). Numbers only, so that a host program can hold it and any row whatever can be passed; whether one
-// is valid is a test.
+// A parameter (document 01: a parameter row). Numbers only, so that a host program can hold it and
+// any row whatever can be passed; whether one is valid is a test.
 #[repr(C)]
 pub struct Parameter {
     pub class: u8,
@@ -11,7 +11,8 @@ pub struct Parameter {
     pub max: i64,
 }
 
-// What reading a parameter answers: document 01's error number, 0 where there is none. Refused, the value is 0 and not in range.
+// What reading a parameter answers: document 01's error number, 0 where there is none. Refused, the
+// value is 0 and not in range.
 #[repr(C)]
 pub struct ParameterValue {
     pub error: u8,

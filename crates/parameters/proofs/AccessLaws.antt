@@ -1,4 +1,5 @@
--- What the calls of the gauge give that read and write a parameter's bytes. The premises are what the callees ensure, word for word.
+-- What the calls of the gauge give that read and write a parameter's bytes. The premises are what
+-- the callees ensure, word for word.
 use Prim.Native.Nat.{ℕ, _+_, _-_, _/_, _≤_}
 use mathlib.Core.Path.{_≡_, refl, ap, _∙_}
 use mathlib.Core.List.{List, [], _∷_, _++_}

@@ -1,4 +1,5 @@
--- What the calls amount to that a value is sent by: its bytes to the window, and the window's checksum.
+-- What the calls amount to that a value is sent by: its bytes to the window, and the window's
+-- checksum.
 use Prim.Native.Nat.{ℕ, _+_, _%_}
 use mathlib.Core.List.{List, [], _∷_}
 use lib.IntN.{ℤ}

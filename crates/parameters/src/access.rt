@@ -1,4 +1,5 @@
-// A parameter's bytes through the gauge, powered on open: its block is loaded, and its bytes are read in the window, or written there and committed.
+// A parameter's bytes through the gauge, powered on open: its block is loaded, and its bytes are
+// read in the window, or written there and committed.
 use checksum::checksum;
 use flashrules::layout::Layout;
 use flashrules::layout::MAX_IMAGE_LENGTH;
@@ -80,7 +81,8 @@ fn fetch(layout: Layout, image: &mut [u8], parameter: Parameter) -> [u8; MAX_WID
     bytes
 }
 
-// Its value. To load a block is a write, which wants an image that is lent to be written into: a copy.
+// Its value. To load a block is a write, which wants an image that is lent to be written into: a
+// copy.
 pub(crate) fn value_in(layout: Layout, image: &[u8], parameter: Parameter) -> i64
     requires { ⌜ getError layout (length (now image)) parameter ≡ 0 ⌝ }
     ensures { λ r. ⌜ r ≡ valueIn layout (now (image .entry)) parameter ⌝ }

@@ -1,4 +1,5 @@
--- What was found of the two files: chunks fed one after the other, and what that is worth where nothing was refused.
+-- What was found of the two files: chunks fed one after the other, and what that is worth where
+-- nothing was refused.
 use Prim.Native.Nat.{ℕ, _+_, _-_, _≤_}
 use mathlib.Core.Path.{_≡_, sym, _∙_}
 use mathlib.Core.Bool.{Bool, true, false, true≢false}

@@ -1,6 +1,7 @@
--- What is known of the two files before anything is run. No contract can say which characters a file has; but what
--- runs a script asks for an image that goes with its layout, and for a parser's state that ended well after so many
--- characters: a state that forgot some of them is none of so many.
+-- What is known of the two files before anything is run. No contract can say which characters a
+-- file has; but what runs a script asks for an image that goes with its layout, and for a parser's
+-- state that ended well after so many characters: a state that forgot some of them is none of so
+-- many.
 use Prim.Native.Nat.{ℕ, _+_, _%_, _^_}
 use mathlib.Core.Path.{_≡_}
 use mathlib.Core.Bool.{Bool, true}
@@ -15,7 +16,8 @@ use Rattle.scriptrules.specs.declared.parser.Parser.{Parser}
 pub record ImageChecked (error : ℕ) (l : Layout) (size : ℕ) : Type 0 where
   pub fits : error ≡ 0 → fits l size ≡ true
 
--- some text leads from one state of the parser to another, and from one number of characters, modulo 2^64, to another
+-- some text leads from one state of the parser to another, and from one number of characters,
+-- modulo 2^64, to another
 pub record Fed (s : Parser) (n : ℕ) (s′ : Parser) (n′ : ℕ) : Type 0 where
   pub text : List ℕ
   pub state : s′ ≡ feed s text

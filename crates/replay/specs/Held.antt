@@ -1,6 +1,6 @@
--- What the second pass does, as events of a host (crate `scriptrules`, specs/Host.antt): by the claim `HostPrints`
--- there, a host that has run all of a script has printed what document 01 asks for. No contract can say what is read
--- from a file or printed.
+-- What the second pass does, as events of a host (crate `scriptrules`, specs/Host.antt): by the
+-- claim `HostPrints` there, a host that has run all of a script has printed what document 01 asks
+-- for. No contract can say what is read from a file or printed.
 use Prim.Native.Nat.{ℕ, _-_}
 use mathlib.Core.Path.{_≡_}
 use mathlib.Core.List.{List, [], _∷_, _++_}
@@ -18,8 +18,8 @@ pub record Longer (y x : List ℕ) : Type 0 where
   pub more : List ℕ
   pub whole : x ≡ y ++ more
 
--- one turn leads from a device and a text held to others: the text is run, with this buffer for the replies, and then
--- more may come
+-- one turn leads from a device and a text held to others: the text is run, with this buffer for the
+-- replies, and then more may come
 pub record Turned (l : Layout) (out : List ℕ) (d : Device) (x : List ℕ) (d′ : Device) (x′ : List ℕ) : Type 0 where
   pub more : List ℕ
   pub device : handleAll l (host d x []) (runs out ∷ arrives more ∷ []) .device ≡ d′

@@ -1,4 +1,5 @@
-// Which line of a script breaks its rules, for the message: the script is read once more, character by character.
+// Which line of a script breaks its rules, for the message: the script is read once more, character
+// by character.
 use crate::input::read_some;
 use crate::output::report;
 use hextext::LINE_FEED;

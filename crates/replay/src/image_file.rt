@@ -47,8 +47,9 @@ fn load_text(buffer: &mut [u8]) -> Got
     got
 }
 
-// The layout of the file, and its image at the front of the buffer. No image file is longer than MAX_TEXT or empty: of a longer file
-// one byte more is parsed than that, and of one that cannot be read nothing.
+// The layout of the file, and its image at the front of the buffer. No image file is longer than
+// MAX_TEXT or empty: of a longer file one byte more is parsed than that, and of one that cannot be
+// read nothing.
 pub(crate) fn load(buffer: &mut [u8]) -> FileRead
     ensures { λ r. ⌜ r .length ≤ length (now (buffer .entry)) ⌝ }
     ensures { λ r. ⌜ ImageChecked (r .error) (r .layout) (r .length) ⌝ }

@@ -1,8 +1,10 @@
-// Replays script.hex on a gauge with the image of image.hex, both in the current folder: powered on sealed, one line an answer. A file
-// that breaks its rules, is missing or cannot be read gives the single line 0A, and the reason goes to standard error.
+// Replays script.hex on a gauge with the image of image.hex, both in the current folder: powered on
+// sealed, one line an answer. A file that breaks its rules, is missing or cannot be read gives the
+// single line 0A, and the reason goes to standard error.
 //
-// Both files are parsed before anything is printed, so the script is read twice, each time in chunks: any length of it takes the same
-// memory. What is printed is proved of crate `scriptrunner`, whose calls do all the work; here they are fed.
+// Both files are parsed before anything is printed, so the script is read twice, each time in
+// chunks: any length of it takes the same memory. What is printed is proved of crate
+// `scriptrunner`, whose calls do all the work; here they are fed.
 mod diagnose;
 mod image_file;
 mod input;

@@ -1,5 +1,5 @@
-// The second pass over the script: its frames are run, and their replies printed. specs/Held.antt says in which sense its turns are
-// events of a host.
+// The second pass over the script: its frames are run, and their replies printed. specs/Held.antt
+// says in which sense its turns are events of a host.
 use crate::input::Got;
 use crate::input::read_some;
 use crate::output::print;
@@ -25,7 +25,8 @@ ghost use Rattle.scriptrules.specs.Replay.{poweredOn};
 ghost use Rattle.replay.specs.Checked.{Fed};
 ghost use Rattle.replay.specs.Held.{held, Longer, Turned, Passed};
 
-// The gauge, and which bytes of the buffer are text that has come and was not run; and how many were read in this turn.
+// The gauge, and which bytes of the buffer are text that has come and was not run; and how many
+// were read in this turn.
 struct Held {
     gauge: Gauge,
     from: usize,
@@ -94,7 +95,8 @@ fn run_held(
     run(layout, image, gauge, &buffer[from..to], out)
 }
 
-// What is held is run, and the replies are printed; where no line of it could be run, more text is read.
+// What is held is run, and the replies are printed; where no line of it could be run, more text is
+// read.
 fn turn(
     fd: i32,
     layout: Layout,
@@ -139,7 +141,8 @@ struct Ended {
     read: u64,
 }
 
-// Turn after turn, from power-on. Nothing says that a file ends, so the loop counts down from a number that no run uses up.
+// Turn after turn, from power-on. Nothing says that a file ends, so the loop counts down from a
+// number that no run uses up.
 fn turns(fd: i32, layout: Layout, image: &mut [u8], buffer: &mut [u8], out: &mut [u8]) -> Ended
     ensures { λ r. ⌜ Passed layout (poweredOn (now (image .entry))) (now (image .exit)) (r .held) ⌝ }
 {
@@ -169,8 +172,8 @@ fn turns(fd: i32, layout: Layout, image: &mut [u8], buffer: &mut [u8], out: &mut
     }
 }
 
-// A script that was parsed is run, over an image of the layout. All of it is read again and nothing of it is held at the end, unless the
-// file changed meanwhile.
+// A script that was parsed is run, over an image of the layout. All of it is read again and nothing
+// of it is held at the end, unless the file changed meanwhile.
 pub(crate) fn replay(fd: i32, layout: Layout, image: &mut [u8], state: Parser, count: u64)
     requires { ⌜ fits layout (length (now image)) ≡ true ⌝ }
     requires { ⌜ Fed start 0 state count ⌝ }

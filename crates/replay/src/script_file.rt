@@ -9,8 +9,8 @@ use std::num::wrapping_add_u64;
 ghost use Rattle.scriptrules.specs.Parser.{start};
 ghost use Rattle.replay.specs.Checked.{Fed, ScriptChecked};
 
-// What the first pass found: whether it is a script and can be read once more from its start, the parser's state at its end, and how many
-// characters it has.
+// What the first pass found: whether it is a script and can be read once more from its start, the
+// parser's state at its end, and how many characters it has.
 pub(crate) struct Parsed {
     pub good: bool,
     pub state: Parser,
@@ -55,7 +55,8 @@ fn parse_some(fd: i32, state: Parser, count: u64, buffer: &mut [u8]) -> Turn
     feed_chunk(state, count, &buffer[0..n], got.failed)
 }
 
-// All chunks. Nothing says that a file ends, so the loop counts its turns down from a number that no run uses up.
+// All chunks. Nothing says that a file ends, so the loop counts its turns down from a number that
+// no run uses up.
 fn parse_all(fd: i32, buffer: &mut [u8]) -> Turn
     ensures { λ r. ⌜ Fed start 0 (r .state) (r .count) ⌝ }
 {

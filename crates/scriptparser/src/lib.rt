@@ -1,5 +1,5 @@
-// Whether a text is a script. The state goes in and comes back by value, so a script of any length is parsed in chunks: `start`, `feed`
-// for each chunk, `end`.
+// Whether a text is a script. The state goes in and comes back by value, so a script of any length
+// is parsed in chunks: `start`, `feed` for each chunk, `end`.
 use flashrules::error::MALFORMED;
 use hextext::LINE_FEED;
 use hextext::value;
@@ -131,7 +131,8 @@ pub fn end(state: Parser) -> u8
     MALFORMED
 }
 
-// Whether a line, without its line feed, is a frame. A line feed in it would begin the count anew, so every byte must be counted.
+// Whether a line, without its line feed, is a frame. A line feed in it would begin the count anew,
+// so every byte must be counted.
 pub fn is_frame(line: &[u8]) -> bool
     ensures { λ r. ⌜ r ≡ isFrame (now (line .entry)) ⌝ }
 {

@@ -1,5 +1,5 @@
--- A host's output: however the script is cut and whatever buffers are lent, the frames of the text that it holds and of all that is yet to come are
--- those that it still has to run.
+-- A host's output: however the script is cut and whatever buffers are lent, the frames of the text
+-- that it holds and of all that is yet to come are those that it still has to run.
 use Prim.Native.Nat.{ℕ}
 use mathlib.Core.Path.{_≡_, _∙_}
 use mathlib.Core.List.{List, [], _∷_, _++_, append-assoc, append-nil}

@@ -1,4 +1,5 @@
--- The claims of specs/Laws.antt, proved: what crates above cite. Each proof stands with the laws that it rests on.
+-- The claims of specs/Laws.antt, proved: what crates above cite. Each proof stands with the laws
+-- that it rests on.
 pub use Rattle.scriptrules.proofs.ParserLaws.{feed-chunks}
 pub use Rattle.scriptrules.proofs.ScriptLaws.{accepted-line, accepted-script}
 pub use Rattle.scriptrules.proofs.ReplyLaws.{reply-length, nothing-printed}

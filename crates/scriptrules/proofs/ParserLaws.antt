@@ -1,4 +1,5 @@
--- The state machine of a script: what it knows of the line that is not ended, and what one character more makes of it.
+-- The state machine of a script: what it knows of the line that is not ended, and what one
+-- character more makes of it.
 use Prim.Native.Nat.{ℕ, suc, _+_, _*_, _%_, _≤_, _<_}
 use mathlib.Core.Path.{_≡_, refl, sym}
 use mathlib.Core.Bool.{true, false, cond, true≢false}

@@ -29,7 +29,8 @@ use Rattle.scriptrules.proofs.AnswerLaws.{answer-runs, answer-full, ans
 
 -- ---- what is claimed of it, by induction
 
--- why a run of lines ended with error e: `rest` is the text left, and n characters of the buffer's `room` are replies
+-- why a run of lines ended with error e: `rest` is the text left, and n characters of the buffer's
+-- `room` are replies
 record Stop (rest : List ℕ) (room e n : ℕ) : Type 0 where
   errors : (e ≡ 0) ⊎ ((e ≡ malformed) ⊎ (e ≡ shortBuffer))
   ended : e ≡ 0 → linesOf rest ≡ []

@@ -1,5 +1,6 @@
--- Frames and the text of a script. Document 01, "The replay program": "Script: one frame a line, digits and line ends
--- as in the image; 01, register, 0 to 255 bytes (write); 00, register, count (read). It may be empty."
+-- Frames and the text of a script. Document 01, "The replay program": "Script: one frame a line,
+-- digits and line ends as in the image; 01, register, 0 to 255 bytes (write); 00, register, count
+-- (read). It may be empty."
 use Prim.Native.Nat.{ℕ}
 use mathlib.Core.Bool.{cond}
 use mathlib.Core.List.{List, [], _∷_, _++_}
@@ -41,7 +42,8 @@ serializeScript (f ∷ fs) = lineOf f ++ (lineFeed ∷ serializeScript fs)
 
 -- ---- and back, asking nothing of the text: specs/Parser.antt says which texts are scripts
 
--- the whole lines of a text, each without its line feed; `line` stands before the text, in its first line
+-- the whole lines of a text, each without its line feed; `line` stands before the text, in its
+-- first line
 abbrev pub linesAfter : List ℕ → List ℕ → List (List ℕ)
 linesAfter line [] = []
 linesAfter line (c ∷ cs) = cond (eqb c lineFeed) (line ∷ linesAfter [] cs) (linesAfter (line ++ (c ∷ [])) cs)

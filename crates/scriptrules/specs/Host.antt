@@ -1,6 +1,6 @@
--- A host of the calls: a program that gets a script piece by piece, runs what it has, and prints the replies. What it
--- does is a list of events, so that a claim about every list of events is one about every way to cut a script and every
--- buffer lent.
+-- A host of the calls: a program that gets a script piece by piece, runs what it has, and prints
+-- the replies. What it does is a list of events, so that a claim about every list of events is one
+-- about every way to cut a script and every buffer lent.
 use Prim.Native.Nat.{ℕ}
 use mathlib.Core.List.{List, [], _∷_, _++_}
 use lib.ListN.{take, drop}

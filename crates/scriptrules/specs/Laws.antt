@@ -1,5 +1,5 @@
--- What is claimed of scripts and of the replay, beyond the definitions. proofs/Laws.antt has a proof of each claim,
--- under its name in small letters.
+-- What is claimed of scripts and of the replay, beyond the definitions. proofs/Laws.antt has a
+-- proof of each claim, under its name in small letters.
 use Prim.Native.Nat.{ℕ, _+_, _≤_, _<_}
 use mathlib.Core.Path.{_≡_}
 use mathlib.Core.Logic.{_↔_, _⊎_}
@@ -63,7 +63,8 @@ FeedChunks = (s : Parser) (x y : List ℕ) → feed s (x ++ y) ≡ feed (feed s 
 abbrev pub ReplyLength : Type 0
 ReplyLength = (l : Layout) (d : Device) (f : Frame) → length (replyText l d f) ≤ maxReply
 
--- nothing is printed only for an empty script; the image file may be refused, and then it is not nothing
+-- nothing is printed only for an empty script; the image file may be refused, and then it is not
+-- nothing
 abbrev pub NothingPrinted : Type 0
 NothingPrinted = (x y : List ℕ) → replay x y ≡ [] → y ≡ []
 
@@ -95,8 +96,8 @@ pub record Ran (l : Layout) (d : Device) (x buffer : List ℕ) (s : Outcome Prog
   pub size : s .answer .length ≡ length (replies l d frames)
   pub inside : s .answer .length ≤ length buffer
   pub after : device (s .answer .gauge) (s .lent .image) ≡ afterFrames l d frames
-  -- and it stopped where no whole line is left, where one is that is no frame, or where there was no room for one
-  -- reply more
+  -- and it stopped where no whole line is left, where one is that is no frame, or where there was
+  -- no room for one reply more
   pub errors : (s .answer .error ≡ 0) ⊎ ((s .answer .error ≡ malformed) ⊎ (s .answer .error ≡ shortBuffer))
   pub ended : s .answer .error ≡ 0 → linesOf (drop (s .answer .next) x) ≡ []
   pub wrong : s .answer .error ≡ malformed → (f : Frame) (y : List ℕ) → Sendable f
@@ -106,7 +107,8 @@ pub record Ran (l : Layout) (d : Device) (x buffer : List ℕ) (s : Outcome Prog
 abbrev pub RunFrames : Type 0
 RunFrames = (l : Layout) (d : Device) (x buffer : List ℕ) → Ran l d x buffer (run l (d .image) (d .gauge) x buffer)
 
--- however a script is cut and whatever buffers are lent: a host that has run all of it has printed the output
+-- however a script is cut and whatever buffers are lent: a host that has run all of it has printed
+-- the output
 abbrev pub HostPrints : Type 0
 HostPrints =
     (x y : List ℕ) (l : Layout) (bytes : List ℕ) (ss : List Event) → parseImage x ≡ imageFile l bytes
@@ -120,8 +122,9 @@ abbrev pub staySealed : Layout → Device → List Frame → Bool
 staySealed l d [] = true
 staySealed l d (f ∷ fs) = and (not (unseals l d (callOf f)) ∷ staySealed l (afterFrame l d f) fs ∷ [])
 
--- two gauges powered on sealed whose images agree, and frames none of which unseals either: those of a whole script,
--- or of any script before the first that does. The replies are equal, the images agree afterwards, and each is kept
+-- two gauges powered on sealed whose images agree, and frames none of which unseals either: those
+-- of a whole script, or of any script before the first that does. The replies are equal, the images
+-- agree afterwards, and each is kept
 abbrev pub FrameNoninterference : Type 0
 FrameNoninterference =
     (l : Layout) (image₁ image₂ : List ℕ) (fs : List Frame) → fits l (length image₁) ≡ true
@@ -132,8 +135,8 @@ FrameNoninterference =
     × Kept l image₁ (afterFrames l (poweredOn image₁) fs .image)
     × Kept l image₂ (afterFrames l (poweredOn image₂) fs .image)
 
--- the texts of two images of one layout that agree, and a script that unseals neither gauge: the same output text,
--- and images that agree afterwards
+-- the texts of two images of one layout that agree, and a script that unseals neither gauge: the
+-- same output text, and images that agree afterwards
 abbrev pub OutputNoninterference : Type 0
 OutputNoninterference =
     (x₁ x₂ y : List ℕ) (l : Layout) (bytes₁ bytes₂ : List ℕ) → parseImage x₁ ≡ imageFile l bytes₁

@@ -1,6 +1,6 @@
--- Which texts are scripts: parsed character by character, by a state that goes in and comes back, so that a script of
--- any length can be parsed in chunks. specs/Laws.antt says which texts these are, in terms of specs/Frame.antt alone
--- (`IsScript`).
+-- Which texts are scripts: parsed character by character, by a state that goes in and comes back,
+-- so that a script of any length can be parsed in chunks. specs/Laws.antt says which texts these
+-- are, in terms of specs/Frame.antt alone (`IsScript`).
 use Prim.Native.Nat.{ℕ, _+_, _*_, _%_}
 use mathlib.Core.Bool.{Bool, true, false, cond}
 use mathlib.Core.List.{List, [], _∷_}
@@ -12,8 +12,8 @@ use Rattle.flashrules.specs.Choice.{and}
 use Rattle.scriptrules.specs.Frame.{Frame, readKind, writeKind, maxFrame, linesOf, framesOf}
 use Rattle.scriptrules.specs.declared.parser.Parser.{Parser}
 
--- `good`: no rule is broken yet. Of the line that is not ended yet: how many digits it has, and its kind, the byte of
--- the first two
+-- `good`: no rule is broken yet. Of the line that is not ended yet: how many digits it has, and its
+-- kind, the byte of the first two
 abbrev pub state : Bool → ℕ → ℕ → Parser
 state good count kind = record { good = good; count = count; kind = kind }
 
@@ -27,7 +27,8 @@ broken = state false 0 0
 unfoldable pub isDigit : ℕ → Bool
 isDigit c = cond (ltb c 65) (and (leb 48 c ∷ leb c 57 ∷ [])) (leb c 70)
 
--- whether a frame of this kind may have so many digits; no more than 257 bytes are let through before
+-- whether a frame of this kind may have so many digits; no more than 257 bytes are let through
+-- before
 unfoldable pub isWhole : ℕ → ℕ → Bool
 isWhole kind count =
     cond (eqb kind readKind) (eqb count 6)

@@ -1,5 +1,5 @@
--- The whole output of the replay. Document 01, "The replay program": "It reads image.hex and script.hex and prints
--- one line an answer, powered on sealed."
+-- The whole output of the replay. Document 01, "The replay program": "It reads image.hex and
+-- script.hex and prints one line an answer, powered on sealed."
 use mathlib.Core.List.{List, [], _∷_}
 use Prim.Native.Nat.{ℕ}
 use Rattle.hextext.specs.Hex.{hexLine}

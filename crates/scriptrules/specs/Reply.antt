@@ -1,5 +1,5 @@
--- Replies. Document 01, "The replay program": "Reply: number and count taken, or 00 and the bytes read, or the number
--- alone for a refused read."
+-- Replies. Document 01, "The replay program": "Reply: number and count taken, or 00 and the bytes
+-- read, or the number alone for a refused read."
 use Prim.Native.Nat.{ℕ}
 use mathlib.Core.List.{List, [], _∷_, _++_}
 use lib.ListN.{take, replicate}

@@ -1,6 +1,6 @@
--- What the calls that run frames answer, and what they leave. A line that is no frame is refused with 10 and a buffer
--- with less room than the longest reply with 14, in this order; a refused line leaves gauge, image and buffer as they
--- were.
+-- What the calls that run frames answer, and what they leave. A line that is no frame is refused
+-- with 10 and a buffer with less room than the longest reply with 14, in this order; a refused line
+-- leaves gauge, image and buffer as they were.
 use Prim.Native.Nat.{ℕ, _+_, _-_}
 use mathlib.Core.Bool.{Bool, cond, not}
 use mathlib.Core.List.{List, [], _∷_}
@@ -56,7 +56,8 @@ runLine l image g line buffer at =
 abbrev pub progress : ℕ → Gauge → ℕ → ℕ → Progress
 progress e g next n = record { error = e; gauge = g; next = next; length = n }
 
--- line by line, until one is refused: `next` characters of the text and `n` of the buffer come before
+-- line by line, until one is refused: `next` characters of the text and `n` of the buffer come
+-- before
 abbrev pub runLines : Layout → List ℕ → Gauge → List (List ℕ) → List ℕ → ℕ → ℕ → Outcome Progress Lent
 runLines l image g [] buffer next n = outcome (progress 0 g next n) (lend image buffer)
 runLines l image g (x ∷ xs) buffer next n =

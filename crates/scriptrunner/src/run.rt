@@ -1,4 +1,5 @@
-// Frames are run on a gauge and its image, and their replies put into a lent buffer: a line at a time, or all whole lines of a text.
+// Frames are run on a gauge and its image, and their replies put into a lent buffer: a line at a
+// time, or all whole lines of a text.
 use crate::reply::MAX_REPLY;
 use crate::reply::run_read;
 use crate::reply::run_write;
@@ -71,7 +72,8 @@ fn run_frame(
     run_write(layout, image, gauge, frame[1], &frame[2..end], buffer, at)
 }
 
-// One line, without its line feed, is run; its reply is put into the buffer from an index on. A refused line alters nothing.
+// One line, without its line feed, is run; its reply is put into the buffer from an index on. A
+// refused line alters nothing.
 pub fn run_line(
     layout: Layout,
     image: &mut [u8],
@@ -94,7 +96,8 @@ pub fn run_line(
     }
 }
 
-// One line more is run, behind replies that take up so much of the buffer; its length here is that of all of them.
+// One line more is run, behind replies that take up so much of the buffer; its length here is that
+// of all of them.
 fn run_behind(
     layout: Layout,
     image: &mut [u8],
@@ -116,8 +119,9 @@ fn run_behind(
     }
 }
 
-// The whole lines of a text are run, until one is refused; their replies are put at the front of the buffer. 14 says that the buffer has
-// no room for one more: the caller goes on behind `next` with another.
+// The whole lines of a text are run, until one is refused; their replies are put at the front of
+// the buffer. 14 says that the buffer has no room for one more: the caller goes on behind `next`
+// with another.
 pub fn run(
     layout: Layout,
     image: &mut [u8],

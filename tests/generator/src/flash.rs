@@ -1,7 +1,10 @@
-//! Generated data flash: classes with their bytes, and the text of any list of classes, valid or not.
+//! Generated data flash: classes with their bytes, and the text of any list of classes, valid or
+//! not.
 
 use crate::random::Random;
-use model::layout::{checksum, BLOCK_LENGTH, INFO_CLASS, INFO_LENGTH, KEY_CLASS, KEY_CLASS_MIN_LENGTH};
+use model::layout::{
+    checksum, BLOCK_LENGTH, INFO_CLASS, INFO_LENGTH, KEY_CLASS, KEY_CLASS_MIN_LENGTH,
+};
 use model::layout::{MAX_CLASSES, MAX_CLASS_LENGTH, MAX_IMAGE_LENGTH};
 use model::text::{push_byte, push_bytes};
 use std::collections::BTreeSet;
@@ -21,7 +24,8 @@ pub struct Flash {
 }
 
 impl Flash {
-    /// The image file of these classes in this order, each line with its right checksum, whatever the layout's rules say.
+    /// The image file of these classes in this order, each line with its right checksum, whatever
+    /// the layout's rules say.
     pub fn text(&self) -> Vec<u8> {
         self.classes.iter().flat_map(class_text).collect()
     }
@@ -31,13 +35,18 @@ impl Flash {
     }
 
     pub fn class(&mut self, id: u8) -> &mut Class {
-        self.classes.iter_mut().find(|class| class.id == id).expect("a class that every generated flash has")
+        self.classes
+            .iter_mut()
+            .find(|class| class.id == id)
+            .expect("a class that every generated flash has")
     }
 
     /// Whether both keys can be entered: none of their words is a command word.
     fn can_be_opened(&mut self) -> bool {
         let words = self.class(KEY_CLASS).bytes[..8].chunks(2);
-        !words.into_iter().any(|word| COMMAND_WORDS.contains(&u16::from_le_bytes([word[0], word[1]])))
+        !words
+            .into_iter()
+            .any(|word| COMMAND_WORDS.contains(&u16::from_le_bytes([word[0], word[1]])))
     }
 }
 
@@ -112,7 +121,8 @@ pub fn full(random: &mut Random) -> Flash {
 pub fn longest_text(random: &mut Random) -> Flash {
     let ids = ids(random, MAX_CLASSES);
     let short = BLOCK_LENGTH + 1;
-    let mut lengths: Vec<_> = ids.iter().map(|&id| (id, if id == INFO_CLASS { INFO_LENGTH } else { short })).collect();
+    let mut lengths: Vec<_> =
+        ids.iter().map(|&id| (id, if id == INFO_CLASS { INFO_LENGTH } else { short })).collect();
     while total(&lengths) + BLOCK_LENGTH <= MAX_IMAGE_LENGTH {
         let (id, length) = &mut lengths[random.below(MAX_CLASSES)];
         if *id != INFO_CLASS && *length + BLOCK_LENGTH <= MAX_CLASS_LENGTH {
@@ -120,7 +130,8 @@ pub fn longest_text(random: &mut Random) -> Flash {
         }
     }
     let missing = MAX_IMAGE_LENGTH - total(&lengths);
-    let (_, length) = lengths.iter_mut().find(|(id, _)| *id != INFO_CLASS).expect("31 such classes");
+    let (_, length) =
+        lengths.iter_mut().find(|(id, _)| *id != INFO_CLASS).expect("31 such classes");
     *length += missing;
     filled(random, &lengths)
 }
@@ -141,7 +152,8 @@ pub fn round_text(random: &mut Random) -> Flash {
     }
 }
 
-/// Lengths of further classes that make a text of `target` characters together with the two that must be there.
+/// Lengths of further classes that make a text of `target` characters together with the two that
+/// must be there.
 fn lengths_for_text(random: &mut Random, target: usize) -> Vec<usize> {
     let mut missing = target - text_length(INFO_LENGTH) - text_length(KEY_CLASS_MIN_LENGTH);
     let mut lengths = Vec::new();
@@ -161,7 +173,8 @@ fn lengths_for_text(random: &mut Random, target: usize) -> Vec<usize> {
     lengths
 }
 
-/// The characters of a class: two a byte, and seven a line for class, block, checksum and line feed.
+/// The characters of a class: two a byte, and seven a line for class, block, checksum and line
+/// feed.
 fn text_length(length: usize) -> usize {
     2 * length + 7 * length.div_ceil(BLOCK_LENGTH).max(1)
 }
@@ -170,7 +183,11 @@ fn text_length(length: usize) -> usize {
 fn ids(random: &mut Random, count: usize) -> Vec<u8> {
     let mut ids = BTreeSet::from([INFO_CLASS, KEY_CLASS]);
     while ids.len() < count {
-        let id = if random.chance(40) { random.pick(&[0, 1, 48, 57, 59, 111, 113, 254, 255]) } else { random.byte() };
+        let id = if random.chance(40) {
+            random.pick(&[0, 1, 48, 57, 59, 111, 113, 254, 255])
+        } else {
+            random.byte()
+        };
         ids.insert(id);
     }
     ids.into_iter().collect()
@@ -181,7 +198,8 @@ fn lengths(random: &mut Random, count: usize) -> Vec<(u8, usize)> {
     let ids = ids(random, count);
     let mut lengths: Vec<_> = ids.iter().map(|&id| (id, class_length(random, id))).collect();
     while total(&lengths) > MAX_IMAGE_LENGTH {
-        let longest = lengths.iter_mut().max_by_key(|(_, length)| *length).expect("two classes at least");
+        let longest =
+            lengths.iter_mut().max_by_key(|(_, length)| *length).expect("two classes at least");
         longest.1 /= 2;
     }
     lengths
@@ -219,7 +237,7 @@ fn contents(random: &mut Random, length: usize) -> Vec<u8> {
 
 /// Both keys, as the eight bytes in flash.
 pub fn keys(random: &mut Random) -> [u8; 8] {
-    let mut words = [0; 4].map(|_: u16| random.next() as u16);
+    let mut words = [0; 4].map(|_: u16| random.number() as u16);
     match random.below(16) {
         0 => words = [0xFFFF; 4],
         // a key that can never be entered

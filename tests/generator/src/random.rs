@@ -6,11 +6,11 @@ impl Random {
     /// One generator a case, so that a case does not depend on the cases before it.
     pub fn new(seed: u64, case: u64) -> Random {
         let mut random = Random(seed);
-        random.0 = random.next() ^ case.wrapping_mul(0xD1B5_4A32_D192_ED03);
+        random.0 = random.number() ^ case.wrapping_mul(0xD1B5_4A32_D192_ED03);
         random
     }
 
-    pub fn next(&mut self) -> u64 {
+    pub fn number(&mut self) -> u64 {
         self.0 = self.0.wrapping_add(0x9E37_79B9_7F4A_7C15);
         let mut z = self.0;
         z = (z ^ (z >> 30)).wrapping_mul(0xBF58_476D_1CE4_E5B9);
@@ -20,7 +20,7 @@ impl Random {
 
     /// A number from 0 to `limit` - 1.
     pub fn below(&mut self, limit: usize) -> usize {
-        (self.next() % limit as u64) as usize
+        (self.number() % limit as u64) as usize
     }
 
     /// A number from `low` to `high`, both included.
@@ -29,7 +29,7 @@ impl Random {
     }
 
     pub fn byte(&mut self) -> u8 {
-        self.next() as u8
+        self.number() as u8
     }
 
     pub fn bytes(&mut self, count: usize) -> Vec<u8> {

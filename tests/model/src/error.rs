@@ -1,4 +1,5 @@
-//! 01, "Numbers of the refusals": those that a lookup, a file, a transaction or the parameter desk can give.
+//! 01, "Numbers of the refusals": those that a lookup, a file, a transaction or the parameter desk
+//! can give.
 
 #[derive(Clone, Copy, Debug, PartialEq, Eq)]
 #[repr(u8)]

@@ -44,7 +44,8 @@ impl Gauge {
         Written { error: None, accepted: bytes.len() }
     }
 
-    /// Puts the answer of a read at the start of a lent buffer, or leaves the buffer untouched. "Reading changes nothing."
+    /// Puts the answer of a read at the start of a lent buffer, or leaves the buffer untouched.
+    /// "Reading changes nothing."
     pub fn read(&self, register: u8, count: usize, buffer: &mut [u8]) -> Result<(), Error> {
         self.judge(register, count)?;
         if buffer.len() < count {
@@ -103,9 +104,10 @@ impl Gauge {
         Ok(())
     }
 
-    /// "Any other word sets the result to 0; then, if sealed (or unsealed) and a word is waiting, the waiting word and this
-    /// one are compared with the unseal key (or full access key) [...] Equal: mode becomes unsealed (or full access), none
-    /// waiting. Otherwise this word waits. In full access none waits."
+    /// "Any other word sets the result to 0; then, if sealed (or unsealed) and a word is waiting,
+    /// the waiting word and this one are compared with the unseal key (or full access key) [...]
+    /// Equal: mode becomes unsealed (or full access), none waiting. Otherwise this word waits. In
+    /// full access none waits."
     fn take_key_word(&mut self, word: u16) -> Result<(), Error> {
         self.record.result = 0;
         // "bytes 0 to 3 unseal key, 4 to 7 full access key"
@@ -152,8 +154,8 @@ impl Gauge {
         Ok(())
     }
 
-    /// "0x60 | commit, if it equals the window's checksum"; "A commit copies the window's bytes into the loaded block, as
-    /// many as that block has; window and loading stay."
+    /// "0x60 | commit, if it equals the window's checksum"; "A commit copies the window's bytes
+    /// into the loaded block, as many as that block has; window and loading stay."
     fn commit(&mut self, byte: u8) -> Result<(), Error> {
         let loaded = self.check_editable()?;
         if byte != checksum(&self.record.window) {
@@ -184,7 +186,8 @@ impl Gauge {
         Ok(())
     }
 
-    /// The loaded block: "0x40 to 0x60 with none loaded" is 6, "0x40 to 0x60, block A, sealed" is 7.
+    /// The loaded block: "0x40 to 0x60 with none loaded" is 6, "0x40 to 0x60, block A, sealed" is
+    /// 7.
     fn check_editable(&self) -> Result<Loaded, Error> {
         let loaded = self.record.loaded.ok_or(Error::NotLoaded)?;
         if self.record.mode == Mode::Sealed && loaded == BLOCK_A {
@@ -193,8 +196,8 @@ impl Gauge {
         Ok(loaded)
     }
 
-    /// "Reads: 0x00, 0x01 the result, low byte first; 0x3E class and 0x61 BlockDataControl, both 0 when sealed; 0x3F block;
-    /// 0x40 to 0x5F window; 0x60 its checksum; every other register 0."
+    /// "Reads: 0x00, 0x01 the result, low byte first; 0x3E class and 0x61 BlockDataControl, both 0
+    /// when sealed; 0x3F block; 0x40 to 0x5F window; 0x60 its checksum; every other register 0."
     fn read_byte(&self, register: usize) -> u8 {
         let record = &self.record;
         match register {

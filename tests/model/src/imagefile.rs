@@ -29,7 +29,8 @@ fn add_line(layout: &mut Layout, image: &mut Vec<u8>, line: &[u8]) -> Option<()>
     match layout.classes.last_mut() {
         // "blocks of a class run from 0 without gaps, all but the last hold 32 bytes"
         Some(last) if last.id == *id => {
-            if last.length % BLOCK_LENGTH != 0 || last.length / BLOCK_LENGTH != usize::from(*block) {
+            if last.length % BLOCK_LENGTH != 0 || last.length / BLOCK_LENGTH != usize::from(*block)
+            {
                 return None;
             }
             last.length += data.len();

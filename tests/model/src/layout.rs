@@ -28,8 +28,9 @@ pub struct Layout {
 }
 
 impl Layout {
-    /// "A layout is 1 to 32 classes, identifiers 0 to 255, strictly ascending, each 1 to 512 bytes long, 4,096 bytes
-    /// together at most. Class 58 is present with exactly 96 bytes. Class 112 is present with at least 28."
+    /// "A layout is 1 to 32 classes, identifiers 0 to 255, strictly ascending, each 1 to 512 bytes
+    /// long, 4,096 bytes together at most. Class 58 is present with exactly 96 bytes. Class 112 is
+    /// present with at least 28."
     pub fn is_valid(&self) -> bool {
         (1..=MAX_CLASSES).contains(&self.classes.len())
             && self.classes.windows(2).all(|pair| pair[0].id < pair[1].id)
@@ -56,8 +57,8 @@ impl Layout {
         None
     }
 
-    /// "Finding a class either gives its start and length or ends at once with refusal 4, 10 for the layout coming first."
-    /// Here: the range of its bytes in the image.
+    /// "Finding a class either gives its start and length or ends at once with refusal 4, 10 for
+    /// the layout coming first." Here: the range of its bytes in the image.
     pub fn class(&self, id: u8) -> Result<Range<usize>, Error> {
         if !self.is_valid() {
             return Err(Error::Invalid);
@@ -65,8 +66,9 @@ impl Layout {
         self.position(id).ok_or(Error::NoClass)
     }
 
-    /// "Block b of a class holds bytes 32b to 32b+31, or to the end of the class if that comes first. It exists when 32b is
-    /// less than the length." Here: the range of its bytes in an image of the given length.
+    /// "Block b of a class holds bytes 32b to 32b+31, or to the end of the class if that comes
+    /// first. It exists when 32b is less than the length." Here: the range of its bytes in an image
+    /// of the given length.
     pub fn block(&self, image_length: usize, id: u8, block: u8) -> Result<Range<usize>, Error> {
         self.check_image(image_length)?;
         let class = self.class(id)?;
@@ -87,12 +89,15 @@ impl Layout {
     }
 }
 
-/// "255 less the low eight bits of the sum". The zero bytes past a short block add nothing, so its own bytes will do.
+/// "255 less the low eight bits of the sum", and "any number of bytes and sums them all". The zero
+/// bytes past a short block add nothing, so its own bytes will do.
 pub fn checksum(bytes: &[u8]) -> u8 {
-    255 - bytes.iter().fold(0u8, |sum, &byte| sum.wrapping_add(byte))
+    let sum: u64 = bytes.iter().map(|&byte| u64::from(byte)).sum();
+    255 - (sum % 256) as u8
 }
 
-/// "t = (255 - old checksum - old byte) mod 256 with t never negative, new checksum = 255 - ((t + new byte) mod 256)"
+/// "t = (255 - old checksum - old byte) mod 256 with t never negative, new checksum = 255 - ((t +
+/// new byte) mod 256)"
 pub fn checksum_short_way(old_checksum: u8, old_byte: u8, new_byte: u8) -> u8 {
     let t = (255 - old_checksum).wrapping_sub(old_byte);
     255 - t.wrapping_add(new_byte)
@@ -153,6 +158,15 @@ mod tests {
         assert_eq!(checksum(&[0xFF; 32]), 31);
         assert_eq!(checksum_short_way(31, 0xFF, 0x00), 30);
         assert_eq!(checksum_short_way(0xFE, 0x01, 0x02), 0xFD);
+    }
+
+    #[test]
+    fn checksums_of_any_number_of_bytes() {
+        assert_eq!(checksum(&[]), 255);
+        assert_eq!(checksum(&[0xFF]), 0);
+        assert_eq!(checksum(&[0xFF; 256]), 255);
+        assert_eq!(checksum(&[0xFF; 257]), 0);
+        assert_eq!(checksum(&[1; 100_000]), 255 - 160);
     }
 
     #[test]

@@ -1,6 +1,6 @@
-//! An independent model of document 01, "Build description and exact rules": layout, image file, gauge, parameters and replay
-//! program. It is written from that paper alone and puts simplicity first: each call judges everything anew. Comments quote
-//! the sentence that a rule follows.
+//! An independent model of document 01, "Build description and exact rules": layout, image file,
+//! gauge, parameters and replay program. It is written from that paper alone and puts simplicity
+//! first: each call judges everything anew. Comments quote the sentence that a rule follows.
 
 pub mod error;
 pub mod gauge;

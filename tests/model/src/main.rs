@@ -1,4 +1,5 @@
-//! The model as a program: reads image.hex and script.hex in the current folder and prints the replies.
+//! The model as a program: reads image.hex and script.hex in the current folder and prints the
+//! replies.
 
 use std::fs;
 use std::io::{self, BufWriter, Write};

@@ -88,7 +88,8 @@ pub struct Parameter {
 }
 
 impl Parameter {
-    /// The kind of a valid row: "A row is sound when lowest is at most highest and both fit the kind."
+    /// The kind of a valid row: "A row is sound when lowest is at most highest and both fit the
+    /// kind."
     pub fn valid_kind(&self) -> Result<Kind, Error> {
         let kind = Kind::of(self.kind).ok_or(Error::Parameter)?;
         let fits = |value| kind.values().contains(value);
@@ -123,7 +124,12 @@ pub fn get(layout: &Layout, image: &[u8], parameter: &Parameter) -> Reading {
 }
 
 /// "Setting changes exactly the bytes of that row", and a refused one nothing.
-pub fn set(layout: &Layout, image: &mut [u8], parameter: &Parameter, value: i64) -> Result<(), Error> {
+pub fn set(
+    layout: &Layout,
+    image: &mut [u8],
+    parameter: &Parameter,
+    value: i64,
+) -> Result<(), Error> {
     let (kind, place) = find(layout, image.len(), parameter)?;
     if !parameter.in_range(value) {
         return Err(Error::Range);
@@ -135,8 +141,13 @@ pub fn set(layout: &Layout, image: &mut [u8], parameter: &Parameter, value: i64)
     Ok(())
 }
 
-/// "For the desk: 10, 11, 4, 12, 13." Here the first four, and else the kind and the range of the row's bytes in the image.
-fn find(layout: &Layout, image_length: usize, parameter: &Parameter) -> Result<(Kind, Range<usize>), Error> {
+/// "For the desk: 10, 11, 4, 12, 13." Here the first four, and else the kind and the range of the
+/// row's bytes in the image.
+fn find(
+    layout: &Layout,
+    image_length: usize,
+    parameter: &Parameter,
+) -> Result<(Kind, Range<usize>), Error> {
     layout.check_image(image_length)?;
     let kind = parameter.valid_kind()?;
     let class = layout.class(parameter.class)?;
@@ -149,9 +160,11 @@ fn find(layout: &Layout, image_length: usize, parameter: &Parameter) -> Result<(
     Ok((kind, class.start + first..class.start + last + 1))
 }
 
-/// "the image becomes what a full access gauge leaves that loads the block, writes them and commits"
+/// "the image becomes what a full access gauge leaves that loads the block, writes them and
+/// commits"
 fn written_by_gauge(layout: &Layout, image: &[u8], parameter: &Parameter, bytes: &[u8]) -> Vec<u8> {
-    let block = u8::try_from(usize::from(parameter.offset) / BLOCK_LENGTH).expect("a class has at most 16 blocks");
+    let block = u8::try_from(usize::from(parameter.offset) / BLOCK_LENGTH)
+        .expect("a class has at most 16 blocks");
     let register = 0x40 + (usize::from(parameter.offset) % BLOCK_LENGTH) as u8;
     let mut gauge = Gauge::power_on(layout.clone(), image.to_vec(), Boot::Open);
     accepted(&mut gauge, 0x61, &[0]);
@@ -184,7 +197,8 @@ mod tests {
         (0x84, (-2_147_483_648, &[0x80, 0, 0, 0]), (2_147_483_647, &[0x7F, 0xFF, 0xFF, 0xFF])),
     ];
 
-    /// A class of 66 bytes (0, 1, .. 65) before the two that must be there, and one of 3 bytes after them.
+    /// A class of 66 bytes (0, 1, .. 65) before the two that must be there, and one of 3 bytes
+    /// after them.
     fn layout() -> Layout {
         let classes = [(48, 66), (58, 96), (112, 28), (255, 3)];
         Layout { classes: classes.map(|(id, length)| Class { id, length }).to_vec() }
@@ -202,12 +216,21 @@ mod tests {
     fn stored(parameter: &Parameter, value: i64) -> Vec<u8> {
         let mut image = image();
         assert_eq!(set(&layout(), &mut image, parameter, value), Ok(()));
-        assert_eq!(get(&layout(), &image, parameter), Reading { error: None, value, in_range: true });
+        assert_eq!(
+            get(&layout(), &image, parameter),
+            Reading { error: None, value, in_range: true }
+        );
         image
     }
 
     /// Get and set are refused alike and change nothing.
-    fn assert_refused(layout: &Layout, image: &[u8], parameter: &Parameter, value: i64, error: Error) {
+    fn assert_refused(
+        layout: &Layout,
+        image: &[u8],
+        parameter: &Parameter,
+        value: i64,
+        error: Error,
+    ) {
         let refused = Reading { error: Some(error), value: 0, in_range: false };
         assert_eq!(get(layout, image, parameter), refused, "{parameter:?}");
         let mut after = image.to_vec();
@@ -218,7 +241,13 @@ mod tests {
     #[test]
     fn p11_two_bytes_at_a_blocks_end() {
         for kind in [0x02, 0x82] {
-            assert_refused(&layout(), &image(), &parameter(48, 31, kind, 0, 1000), 258, Error::Place);
+            assert_refused(
+                &layout(),
+                &image(),
+                &parameter(48, 31, kind, 0, 1000),
+                258,
+                Error::Place,
+            );
             let mut expected = image();
             expected[30..32].copy_from_slice(&[1, 2]);
             assert_eq!(stored(&parameter(48, 30, kind, 0, 1000), 258), expected);
@@ -244,11 +273,27 @@ mod tests {
                 assert_eq!(stored(&whole, value), expected, "kind {kind:02X}");
             }
             for value in [low - 1, high + 1, i64::MIN, i64::MAX] {
-                assert_eq!(set(&layout(), &mut image(), &whole, value), Err(Error::Range), "kind {kind:02X}");
+                assert_eq!(
+                    set(&layout(), &mut image(), &whole, value),
+                    Err(Error::Range),
+                    "kind {kind:02X}"
+                );
             }
-            let too_wide = [(low - 1, high), (low, high + 1), (i64::MIN, high), (low, i64::MAX), (low + 1, low)];
+            let too_wide = [
+                (low - 1, high),
+                (low, high + 1),
+                (i64::MIN, high),
+                (low, i64::MAX),
+                (low + 1, low),
+            ];
             for (min, max) in too_wide {
-                assert_refused(&layout(), &image(), &parameter(112, 8, kind, min, max), low, Error::Parameter);
+                assert_refused(
+                    &layout(),
+                    &image(),
+                    &parameter(112, 8, kind, min, max),
+                    low,
+                    Error::Parameter,
+                );
             }
         }
     }
@@ -287,7 +332,13 @@ mod tests {
         for (class, length) in [(48, 66), (58, 96), (112, 28), (255, 3)] {
             stored(&parameter(class, length - 2, 0x02, 0, 9), 9);
             for offset in [length - 1, length, length + 1, u16::MAX - 1, u16::MAX] {
-                assert_refused(&layout(), &image(), &parameter(class, offset, 0x02, 0, 9), 9, Error::Place);
+                assert_refused(
+                    &layout(),
+                    &image(),
+                    &parameter(class, offset, 0x02, 0, 9),
+                    9,
+                    Error::Place,
+                );
             }
         }
         assert_refused(&layout(), &image(), &parameter(255, 0, 0x84, 0, 9), 9, Error::Place);
@@ -298,7 +349,8 @@ mod tests {
     #[test]
     fn order_of_refusals() {
         let (layout, image) = (layout(), image());
-        // no kind, an unknown class, an offset beyond it, a value outside the range: each fault with all those after it
+        // no kind, an unknown class, an offset beyond it, a value outside the range: each fault
+        // with all those after it
         let mut parameter = parameter(49, u16::MAX, 0x03, 5, 9);
         assert_refused(&layout, &image[1..], &parameter, 10, Error::Invalid);
         assert_refused(&Layout::default(), &[], &parameter, 10, Error::Invalid);
@@ -309,7 +361,10 @@ mod tests {
         assert_refused(&layout, &image, &parameter, 10, Error::Place);
         parameter.offset = 30;
         assert_eq!(set(&layout, &mut image.clone(), &parameter, 10), Err(Error::Range));
-        assert_eq!(get(&layout, &image, &parameter), Reading { error: None, value: 30 * 256 + 31, in_range: false });
+        assert_eq!(
+            get(&layout, &image, &parameter),
+            Reading { error: None, value: 30 * 256 + 31, in_range: false }
+        );
         // an unsound range on an unknown class
         let unsound = Parameter { class: 49, min: 9, max: 5, ..parameter };
         assert_refused(&layout, &image, &unsound, 7, Error::Parameter);

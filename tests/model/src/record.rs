@@ -46,8 +46,8 @@ pub struct Record {
 }
 
 impl Record {
-    /// "Home sealed starts sealed, home open starts in full access. All else is 0, none loaded, none waiting,
-    /// BlockDataControl 1."
+    /// "Home sealed starts sealed, home open starts in full access. All else is 0, none loaded,
+    /// none waiting, BlockDataControl 1."
     pub fn power_on(boot: Boot) -> Record {
         Record {
             mode: if boot == Boot::Sealed { Mode::Sealed } else { Mode::FullAccess },
@@ -63,9 +63,10 @@ impl Record {
         }
     }
 
-    /// "A record is sound for a layout when its numbers are in range, a loaded block exists, with none loaded the window is
-    /// zero, in full access no word waits, and a sealed record has BlockDataControl 1 and nothing but a manufacturer block
-    /// loaded." The types keep the other numbers in range.
+    /// "A record is sound for a layout when its numbers are in range, a loaded block exists, with
+    /// none loaded the window is zero, in full access no word waits, and a sealed record has
+    /// BlockDataControl 1 and nothing but a manufacturer block loaded." The types keep the other
+    /// numbers in range.
     pub fn is_valid(&self, layout: &Layout) -> bool {
         let loaded_right = match self.loaded {
             None => self.window == [0; BLOCK_LENGTH],

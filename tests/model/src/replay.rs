@@ -88,7 +88,8 @@ mod tests {
     fn a_bad_file_prints_one_line() {
         let image = session_image();
         let late = [&column(|line| line.0)[..], b"0\n"].concat();
-        let is_refused = |image: Option<&[u8]>, script: Option<&[u8]>| replay(image, script) == b"0A\n";
+        let is_refused =
+            |image: Option<&[u8]>, script: Option<&[u8]>| replay(image, script) == b"0A\n";
         assert!(is_refused(None, Some(b"")));
         assert!(is_refused(Some(&image), None));
         assert!(is_refused(None, None));

@@ -13,8 +13,8 @@ pub enum Frame<'a> {
     Read { register: u8, count: u8 },
 }
 
-/// The frame of one line, its bytes kept in a lent buffer: "01, register, 0 to 255 bytes (write); 00, register, count
-/// (read)".
+/// The frame of one line, its bytes kept in a lent buffer: "01, register, 0 to 255 bytes (write);
+/// 00, register, count (read)".
 pub fn frame<'a>(line: &[u8], buffer: &'a mut [u8; MAX_FRAME]) -> Option<Frame<'a>> {
     match *decode(line, buffer)? {
         [1, register, ref bytes @ ..] => Some(Frame::Write { register, bytes }),
@@ -31,12 +31,13 @@ pub fn is_valid(text: &[u8]) -> bool {
 /// The number of the first line that is no frame or is not ended, from 1.
 pub fn first_bad_line(text: &[u8]) -> Option<usize> {
     let mut buffer = [0; MAX_FRAME];
-    let is_bad = |line: &[u8]| line.strip_suffix(b"\n").and_then(|line| frame(line, &mut buffer)).is_none();
+    let is_bad =
+        |line: &[u8]| line.strip_suffix(b"\n").and_then(|line| frame(line, &mut buffer)).is_none();
     text.split_inclusive(|&c| c == b'\n').position(is_bad).map(|before| before + 1)
 }
 
-/// Runs one frame and appends its reply: "number and count taken, or 00 and the bytes read, or the number alone for a
-/// refused read".
+/// Runs one frame and appends its reply: "number and count taken, or 00 and the bytes read, or the
+/// number alone for a refused read".
 pub fn answer(gauge: &mut Gauge, frame: Frame, reply: &mut Vec<u8>) {
     match frame {
         Frame::Write { register, bytes } => {
@@ -67,9 +68,17 @@ mod tests {
     fn frames() {
         let mut buffer = [0; MAX_FRAME];
         assert_eq!(frame(b"0140", &mut buffer), Some(Frame::Write { register: 0x40, bytes: &[] }));
-        assert_eq!(frame(b"01400A", &mut buffer), Some(Frame::Write { register: 0x40, bytes: &[0x0A] }));
-        assert_eq!(frame(b"00FF80", &mut buffer), Some(Frame::Read { register: 0xFF, count: 0x80 }));
-        for bad in [&b""[..], b"01", b"00", b"0040", b"00400101", b"024001", b"FF4001", b"01400", b"01 40"] {
+        assert_eq!(
+            frame(b"01400A", &mut buffer),
+            Some(Frame::Write { register: 0x40, bytes: &[0x0A] })
+        );
+        assert_eq!(
+            frame(b"00FF80", &mut buffer),
+            Some(Frame::Read { register: 0xFF, count: 0x80 })
+        );
+        for bad in
+            [&b""[..], b"01", b"00", b"0040", b"00400101", b"024001", b"FF4001", b"01400", b"01 40"]
+        {
             assert_eq!(frame(bad, &mut buffer), None);
         }
     }
@@ -87,7 +96,15 @@ mod tests {
         for good in [&b""[..], b"0140\n", b"0140\n000001\n"] {
             assert!(is_valid(good));
         }
-        for bad in [&b"\n"[..], b"0140", b"0140\n\n", b"0140\r\n", b"0140\n000001", b"\xEF\xBB\xBF0140\n", b"0140\n\0"] {
+        for bad in [
+            &b"\n"[..],
+            b"0140",
+            b"0140\n\n",
+            b"0140\r\n",
+            b"0140\n000001",
+            b"\xEF\xBB\xBF0140\n",
+            b"0140\n\0",
+        ] {
             assert!(!is_valid(bad));
         }
         assert_eq!(first_bad_line(b"0140\n000001\n0240\n0140"), Some(3));

@@ -1,7 +1,8 @@
-//! Lines and hexadecimal digits, the same for both files: "Two upper-case digits a byte, no blanks, each line ended by one
-//! line feed."
+//! Lines and hexadecimal digits, the same for both files: "Two upper-case digits a byte, no blanks,
+//! each line ended by one line feed."
 
-/// The lines without their line feeds, or `None` if the last one is not ended. An empty text has no lines.
+/// The lines without their line feeds, or `None` if the last one is not ended. An empty text has no
+/// lines.
 pub fn lines(text: &[u8]) -> Option<impl Iterator<Item = &[u8]>> {
     if text.last().is_some_and(|&last| last != b'\n') {
         return None;
@@ -10,7 +11,8 @@ pub fn lines(text: &[u8]) -> Option<impl Iterator<Item = &[u8]>> {
     Some(ended.map(|line| &line[..line.len() - 1]))
 }
 
-/// The bytes of a line of digits, or `None` if it has anything else, an odd digit, or more bytes than the buffer.
+/// The bytes of a line of digits, or `None` if it has anything else, an odd digit, or more bytes
+/// than the buffer.
 pub fn decode<'a>(line: &[u8], buffer: &'a mut [u8]) -> Option<&'a [u8]> {
     let length = line.len() / 2;
     if line.len() != 2 * length || length > buffer.len() {

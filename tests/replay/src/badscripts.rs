@@ -1,8 +1,8 @@
 //! Scripts with one frame that is none.
 
-use crate::flash::Flash;
-use crate::random::Random;
 use crate::scripts::{self, PIECE};
+use generator::flash::Flash;
+use generator::random::Random;
 
 /// A good script with one line put in: first, last or in between.
 fn with_line(random: &mut Random, flash: &Flash, line: &[u8]) -> Vec<u8> {
@@ -55,12 +55,22 @@ pub fn odd_digits(random: &mut Random, flash: &Flash) -> Vec<u8> {
 /// A long script whose last line alone is bad.
 pub fn late_bad_line(random: &mut Random, flash: &Flash) -> Vec<u8> {
     let mut text = scripts::long(random, flash);
-    let line = random.pick(&[&b"0\n"[..], b"\n", b"0140\r\n", b"024001\n", b"0140", b"014a\n", b"01\n", b"0040\n"]);
+    let line = random.pick(&[
+        &b"0\n"[..],
+        b"\n",
+        b"0140\r\n",
+        b"024001\n",
+        b"0140",
+        b"014a\n",
+        b"01\n",
+        b"0040\n",
+    ]);
     text.extend_from_slice(line);
     text
 }
 
-/// A script with a line cut by a multiple of `PIECE`, and a character beside that cut that is no digit.
+/// A script with a line cut by a multiple of `PIECE`, and a character beside that cut that is no
+/// digit.
 pub fn bad_beside_a_cut(random: &mut Random, flash: &Flash, ordinal: usize) -> Vec<u8> {
     let mut text = scripts::straddling(random, flash, ordinal);
     let place = PIECE * random.between(1, 8) + random.below(4) - 2;

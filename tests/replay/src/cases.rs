@@ -1,9 +1,11 @@
 //! The table of all kinds of cases, and the case of each number.
 
-use crate::damage::{self, Damage};
-use crate::flash::{self, Flash};
-use crate::random::Random;
-use crate::{badscripts, images, scripts};
+use crate::{badscripts, scripts};
+use generator::damage::{self, Damage};
+use generator::flash::{self, Flash};
+use generator::imagetexts::{Expect, ImageText, Make, IMAGE_TEXTS};
+use generator::random::Random;
+use std::sync::LazyLock;
 
 /// What stands in the place of a file.
 pub enum Input {
@@ -26,31 +28,39 @@ pub struct Case {
     pub script: Input,
 }
 
-/// What the model must say of a kind: a check of the generator, and of the model.
-#[derive(Clone, Copy, PartialEq, Eq)]
-pub enum Expect {
-    Good,
-    Bad,
-    Either,
-}
-
+#[derive(Clone, Copy)]
 pub struct Kind {
     pub name: &'static str,
     /// So many of every `total_weight()` cases are of this kind.
     pub weight: usize,
     pub expect: Expect,
-    /// The case, from its random numbers and its number among those of the kind.
-    make: fn(&mut Random, usize) -> Case,
+    inputs: Inputs,
 }
 
-const fn kind(weight: usize, name: &'static str, expect: Expect, make: fn(&mut Random, usize) -> Case) -> Kind {
-    Kind { name, weight, expect, make }
+/// How the case of a kind is made.
+#[derive(Clone, Copy)]
+enum Inputs {
+    /// From its random numbers and its number among those of the kind.
+    Both(fn(&mut Random, usize) -> Case),
+    /// A good script, and its image spoilt.
+    SpoiltImage(Damage),
+    /// A good script, and an image of its own.
+    BadImage(fn(&mut Random) -> Vec<u8>),
+}
+
+const fn kind(
+    weight: usize,
+    name: &'static str,
+    expect: Expect,
+    make: fn(&mut Random, usize) -> Case,
+) -> Kind {
+    Kind { name, weight, expect, inputs: Inputs::Both(make) }
 }
 
 use Expect::{Bad, Either, Good};
 
-pub const KINDS: &[Kind] = &[
-    // Good files
+/// Good files: each script is made for its image.
+const GOOD: &[Kind] = &[
     kind(1, "session", Good, |_, _| session()),
     kind(2, "empty script", Good, |r, _| on_any(r, |_, _| Vec::new())),
     kind(2, "one line", Good, |r, _| on_any(r, scripts::one_line)),
@@ -69,47 +79,10 @@ pub const KINDS: &[Kind] = &[
     kind(2, "round image length", Good, |r, _| on(r, flash::round_text, scripts::mixed)),
     kind(2, "round script length", Good, |r, _| on_openable(r, scripts::ends_at_a_cut)),
     kind(5, scripts::STRADDLING, Good, |r, i| on_openable(r, |r, f| scripts::straddling(r, f, i))),
-    // Image files spoilt by a character or a line
-    kind(2, "image: digit changed", Either, |r, _| spoilt_image(r, damage::digit_changed)),
-    kind(2, "image: no digit", Bad, |r, _| spoilt_image(r, damage::no_digit)),
-    kind(1, "image: NUL", Bad, |r, _| spoilt_image(r, damage::nul)),
-    kind(1, "image: high bit", Bad, |r, _| spoilt_image(r, damage::high_bit)),
-    kind(1, "image: digit removed", Bad, |r, _| spoilt_image(r, damage::digit_removed)),
-    kind(1, "image: digit added", Bad, |r, _| spoilt_image(r, damage::digit_added)),
-    kind(1, "image: lines joined", Either, |r, _| spoilt_image(r, damage::lines_joined)),
-    kind(1, "image: line broken", Either, |r, _| spoilt_image(r, damage::line_broken)),
-    kind(1, "image: lower case", Bad, |r, _| spoilt_image(r, damage::lower_case)),
-    kind(1, "image: carriage return", Bad, |r, _| spoilt_image(r, damage::carriage_returns)),
-    kind(1, "image: blank", Bad, |r, _| spoilt_image(r, damage::blank)),
-    kind(1, "image: no last line feed", Bad, |r, _| spoilt_image(r, damage::no_last_line_feed)),
-    kind(1, "image: empty line", Bad, |r, _| spoilt_image(r, damage::empty_line)),
-    kind(1, "image: byte order mark", Bad, |r, _| spoilt_image(r, damage::byte_order_mark)),
-    kind(2, "image: truncated", Either, |r, _| spoilt_image(r, damage::truncated)),
-    kind(1, "image: lines swapped", Either, |r, _| spoilt_image(r, damage::lines_swapped)),
-    kind(1, "image: line doubled", Bad, |r, _| spoilt_image(r, damage::line_doubled)),
-    kind(1, "image: line removed", Either, |r, _| spoilt_image(r, damage::line_removed)),
-    kind(1, "image: bad last line", Bad, |r, _| spoilt_image(r, damage::bad_last_line)),
-    // Image files that break one rule
-    kind(1, "image: empty", Bad, |r, _| bad_image(r, |_| Vec::new())),
-    kind(1, "image: only digits", Bad, |r, _| bad_image(r, damage::only_digits)),
-    kind(1, "image: only noise", Bad, |r, _| bad_image(r, damage::only_noise)),
-    kind(1, "image: far too long", Bad, |r, _| bad_image(r, images::far_too_long)),
-    kind(1, "image: no class 58", Bad, |r, _| bad_image(r, images::no_info_class)),
-    kind(1, "image: class 58 of 95", Bad, |r, _| bad_image(r, images::info_class_of_95)),
-    kind(1, "image: class 58 of 97", Bad, |r, _| bad_image(r, images::info_class_of_97)),
-    kind(1, "image: no class 112", Bad, |r, _| bad_image(r, images::no_key_class)),
-    kind(1, "image: class 112 of 27", Bad, |r, _| bad_image(r, images::key_class_of_27)),
-    kind(1, "image: class of 513", Bad, |r, _| bad_image(r, images::class_of_513)),
-    kind(1, "image: 33 classes", Bad, |r, _| bad_image(r, images::classes_33)),
-    kind(1, "image: 4097 bytes", Bad, |r, _| bad_image(r, images::bytes_4097)),
-    kind(1, "image: class order", Bad, |r, _| bad_image(r, images::class_order)),
-    kind(1, "image: wrong checksum", Bad, |r, _| bad_image(r, images::wrong_checksum)),
-    kind(1, "image: block numbers", Bad, |r, _| bad_image(r, images::block_numbers)),
-    kind(1, "image: first block number", Bad, |r, _| bad_image(r, images::first_block_number)),
-    kind(1, "image: short block inside", Bad, |r, _| bad_image(r, images::short_block_inside)),
-    kind(1, "image: long block", Bad, |r, _| bad_image(r, images::long_block)),
-    kind(1, "image: line without data", Bad, |r, _| bad_image(r, images::line_without_data)),
-    kind(1, "image: short line", Bad, |r, _| bad_image(r, images::short_line)),
+];
+
+/// Scripts that break a rule, and files that are not there.
+const BAD: &[Kind] = &[
     // Scripts spoilt by a character or a line
     kind(2, "script: digit changed", Either, |r, _| spoilt_script(r, damage::digit_changed)),
     kind(1, "script: no digit", Bad, |r, _| spoilt_script(r, damage::no_digit)),
@@ -137,7 +110,9 @@ pub const KINDS: &[Kind] = &[
     kind(2, "script: write too long", Bad, |r, _| on_any(r, badscripts::write_too_long)),
     kind(1, "script: odd digits", Bad, |r, _| on_any(r, badscripts::odd_digits)),
     kind(1, "script: late bad line", Bad, |r, _| on_any(r, badscripts::late_bad_line)),
-    kind(1, "script: bad beside a cut", Bad, |r, i| on_openable(r, |r, f| badscripts::bad_beside_a_cut(r, f, i))),
+    kind(1, "script: bad beside a cut", Bad, |r, i| {
+        on_openable(r, |r, f| badscripts::bad_beside_a_cut(r, f, i))
+    }),
     kind(1, "script: only digits", Bad, |r, _| on_any(r, |r, _| damage::only_digits(r))),
     kind(1, "script: only noise", Bad, |r, _| on_any(r, |r, _| damage::only_noise(r))),
     kind(1, "both bad", Bad, |r, _| both_bad(r)),
@@ -148,14 +123,34 @@ pub const KINDS: &[Kind] = &[
     kind(1, "image is a folder", Bad, |r, _| Case { image: Input::Folder, ..good(r) }),
     kind(1, "script is a folder", Bad, |r, _| Case { script: Input::Folder, ..good(r) }),
     kind(1, "image missing, script bad", Bad, |r, _| Case { image: Input::Missing, ..both_bad(r) }),
-    kind(1, "image bad, script missing", Bad, |r, _| Case { script: Input::Missing, ..both_bad(r) }),
+    kind(1, "image bad, script missing", Bad, |r, _| Case {
+        script: Input::Missing,
+        ..both_bad(r)
+    }),
 ];
+
+/// All kinds, in the order of their cases.
+pub static KINDS: LazyLock<Vec<Kind>> = LazyLock::new(|| {
+    let images = IMAGE_TEXTS.iter().filter_map(with_image);
+    GOOD.iter().copied().chain(images).chain(BAD.iter().copied()).collect()
+});
+
+/// The kind with such an image, if that is not one of the good ones.
+fn with_image(image: &ImageText) -> Option<Kind> {
+    let inputs = match image.make {
+        Make::Valid(_) => return None,
+        Make::Spoilt(damage) => Inputs::SpoiltImage(damage),
+        Make::Broken(make) | Make::Long(make) => Inputs::BadImage(make),
+    };
+    Some(Kind { name: image.name, weight: image.weight, expect: image.expect, inputs })
+}
 
 pub fn total_weight() -> usize {
     KINDS.iter().map(|kind| kind.weight).sum()
 }
 
-/// The place in the table of the kind of case `number`: every `total_weight()` cases go once through the table.
+/// The place in the table of the kind of case `number`: every `total_weight()` cases go once
+/// through the table.
 pub fn kind_of(number: usize) -> usize {
     place_in_table(number % total_weight()).0
 }
@@ -165,7 +160,12 @@ pub fn case(seed: u64, number: usize) -> Case {
     let (place, turn) = place_in_table(number % total_weight());
     let kind = &KINDS[place];
     let ordinal = number / total_weight() * kind.weight + turn;
-    (kind.make)(&mut Random::new(seed, number as u64), ordinal)
+    let mut random = Random::new(seed, number as u64);
+    match kind.inputs {
+        Inputs::Both(make) => make(&mut random, ordinal),
+        Inputs::SpoiltImage(damage) => spoilt_image(&mut random, damage),
+        Inputs::BadImage(make) => bad_image(&mut random, make),
+    }
 }
 
 /// A kind's place in the table, and which of its cases in this turn.
@@ -227,7 +227,8 @@ fn both_bad(random: &mut Random) -> Case {
 
 /// Image and script of document 01's session.
 fn session() -> Case {
-    const SCRIPT: &str = "013E30 01001404 01007236 016100 013E3000 004006 006001 014502 0160FE 0160FD 01000000 000002";
+    const SCRIPT: &str = "013E30 01001404 01007236 016100 013E3000 004006 006001 014502 0160FE \
+                          0160FD 01000000 000002";
     let keys = [&[0x14, 0x04, 0x72, 0x36][..], &[0xFF; 24]].concat();
     let image = [
         b"3000000000000001FE\n".to_vec(),

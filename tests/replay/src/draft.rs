@@ -1,7 +1,8 @@
-//! A script in the making, with the model running alongside, so that the next frame can be chosen by the gauge's state.
+//! A script in the making, with the model running alongside, so that the next frame can be chosen
+//! by the gauge's state.
 
-use crate::flash::Flash;
-use crate::random::Random;
+use generator::flash::Flash;
+use generator::random::Random;
 use model::gauge::Gauge;
 use model::imagefile;
 use model::layout::{checksum, BLOCK_LENGTH, KEY_CLASS};
@@ -18,7 +19,12 @@ pub struct Draft<'a> {
 impl<'a> Draft<'a> {
     pub fn new(random: &'a mut Random, flash: &Flash) -> Draft<'a> {
         let (layout, image) = imagefile::read(&flash.text()).expect("a generated flash is valid");
-        Draft { random, gauge: Gauge::power_on(layout, image, Boot::Sealed), text: Vec::new(), lines: 0 }
+        Draft {
+            random,
+            gauge: Gauge::power_on(layout, image, Boot::Sealed),
+            text: Vec::new(),
+            lines: 0,
+        }
     }
 
     pub fn write(&mut self, register: u8, bytes: &[u8]) {
@@ -68,7 +74,9 @@ impl<'a> Draft<'a> {
     }
 
     fn key_words(&self, place: usize) -> [u16; 2] {
-        let start = self.gauge.layout.class(KEY_CLASS).expect("every layout has the key class").start + place;
+        let start =
+            self.gauge.layout.class(KEY_CLASS).expect("every layout has the key class").start
+                + place;
         let word = |at: usize| u16::from_le_bytes([self.gauge.image[at], self.gauge.image[at + 1]]);
         [word(start), word(start + 2)]
     }
@@ -123,7 +131,8 @@ impl<'a> Draft<'a> {
     /// How many of the window's bytes belong to the loaded block, 0 if none is loaded.
     pub fn loaded_length(&self) -> usize {
         let loaded = self.gauge.record.loaded;
-        let place = loaded.map(|at| self.gauge.layout.block(self.gauge.image.len(), at.class, at.block));
+        let place =
+            loaded.map(|at| self.gauge.layout.block(self.gauge.image.len(), at.class, at.block));
         place.and_then(|place| place.ok()).map_or(0, |place| place.len())
     }
 

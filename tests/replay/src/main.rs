@@ -1,19 +1,17 @@
-//! Compares the replay program with the model, byte for byte, on generated cases. See tests/README.md.
+//! Compares the replay program with the model, byte for byte, on generated cases. See
+//! tests/README.md.
 //!
 //!     compare-replay PROGRAM FOLDER [SEED [CASES]]
 
 mod badscripts;
 mod cases;
-mod damage;
 mod draft;
-mod images;
 mod moves;
 mod program;
 mod scripts;
 mod tally;
 
-use cases::{case, kind_of, Expect, KINDS};
-use generator::{flash, random};
+use cases::{case, kind_of, KINDS};
 use model::replay::replay;
 use program::Ending;
 use std::error::Error;
@@ -80,8 +78,13 @@ fn compare(options: &Options) -> Fallible<bool> {
     let workers = thread::available_parallelism()?.get().min(2);
     let tallies = thread::scope(|scope| {
         let progress = &progress;
-        let started: Vec<_> = (0..workers).map(|number| scope.spawn(move || work(options, progress, number))).collect();
-        started.into_iter().map(|worker| worker.join().expect("a worker ends")).collect::<Fallible<Vec<Tally>>>()
+        let started: Vec<_> = (0..workers)
+            .map(|number| scope.spawn(move || work(options, progress, number)))
+            .collect();
+        started
+            .into_iter()
+            .map(|worker| worker.join().expect("a worker ends"))
+            .collect::<Fallible<Vec<Tally>>>()
     })?;
     let mut tally = Tally::new();
     tallies.iter().for_each(|part| tally.add(part));
@@ -111,13 +114,21 @@ fn work(options: &Options, progress: &Progress, worker: usize) -> Fallible<Tally
     }
 }
 
-fn compare_one(options: &Options, progress: &Progress, tally: &mut Tally, scratch: &Path, number: usize) -> Fallible<()> {
+fn compare_one(
+    options: &Options,
+    progress: &Progress,
+    tally: &mut Tally,
+    scratch: &Path,
+    number: usize,
+) -> Fallible<()> {
     let kind = &KINDS[kind_of(number)];
     let case = case(options.seed, number);
     tally.count(kind_of(number), &case);
     let expected = replay(case.image.text(), case.script.text());
-    if kind.expect != Expect::Either && (kind.expect == Expect::Bad) != (expected == b"0A\n") {
-        return Err(format!("case {number} ({}): the generator and the model disagree", kind.name).into());
+    if !kind.expect.allows(expected != b"0A\n") {
+        return Err(
+            format!("case {number} ({}): the generator and the model disagree", kind.name).into()
+        );
     }
     program::write_inputs(scratch, &case)?;
     let outcome = program::run(&options.program, scratch, expected.len())?;

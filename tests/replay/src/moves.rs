@@ -1,7 +1,7 @@
 //! What a script can do next: one function a move, each adding a few frames to a draft.
 
 use crate::draft::Draft;
-use crate::flash::{self, COMMAND_WORDS};
+use generator::flash::{self, COMMAND_WORDS};
 use model::layout::{checksum, BLOCK_LENGTH, INFO_CLASS, KEY_CLASS};
 use model::record::Mode;
 
@@ -9,10 +9,25 @@ pub type Move = fn(&mut Draft);
 pub type Moves = [(usize, Move)];
 
 /// Control words and reads of their result.
-pub const WORDS: &Moves =
-    &[(4, status), (1, seal), (1, reset), (1, any_word), (2, half_word), (2, low_byte_again), (1, word_and_more)];
+pub const WORDS: &Moves = &[
+    (4, status),
+    (1, seal),
+    (1, reset),
+    (1, any_word),
+    (2, half_word),
+    (2, low_byte_again),
+    (1, word_and_more),
+];
 /// Keys, right and nearly right.
-pub const KEYS: &Moves = &[(3, unseal), (3, full_access), (8, near_key), (3, status), (2, half_word), (1, seal), (1, look)];
+pub const KEYS: &Moves = &[
+    (3, unseal),
+    (3, full_access),
+    (8, near_key),
+    (3, status),
+    (2, half_word),
+    (1, seal),
+    (1, look),
+];
 /// Block transfer in general access.
 pub const TRANSFER: &Moves = &[
     (3, set_control),
@@ -28,8 +43,16 @@ pub const TRANSFER: &Moves = &[
     (8, look),
 ];
 /// The manufacturer blocks, as a sealed gauge or BlockDataControl 1 has them.
-pub const INFO: &Moves =
-    &[(6, set_block), (4, edit), (4, commit), (6, edit_and_commit), (2, across), (2, block_a), (4, look), (1, set_class)];
+pub const INFO: &Moves = &[
+    (6, set_block),
+    (4, edit),
+    (4, commit),
+    (6, edit_and_commit),
+    (2, across),
+    (2, block_a),
+    (4, look),
+    (1, set_class),
+];
 /// Registers, spans and counts.
 pub const SPANS: &Moves = &[
     (3, other_register),
@@ -77,7 +100,7 @@ fn reset(draft: &mut Draft) {
 }
 
 fn any_word(draft: &mut Draft) {
-    let word = draft.random.next() as u16;
+    let word = draft.random.number() as u16;
     draft.word(word);
     draft.read(0x00, 2);
 }
@@ -116,7 +139,8 @@ pub fn unseal(draft: &mut Draft) {
     let [a, b] = draft.unseal_words();
     draft.word(a);
     if draft.random.chance(30) {
-        let between = draft.random.pick(&[look as Move, set_block, other_register, write_nothing, edit]);
+        let between =
+            draft.random.pick(&[look as Move, set_block, other_register, write_nothing, edit]);
         between(draft);
     }
     draft.word(b);
@@ -148,7 +172,7 @@ fn near_key(draft: &mut Draft) {
         _ => (draft.full_access_words(), draft.unseal_words()),
     };
     let [a, b] = key;
-    let any = draft.random.next() as u16;
+    let any = draft.random.number() as u16;
     let command = draft.random.pick(&COMMAND_WORDS);
     let bit = 1 << draft.random.below(16);
     match draft.random.below(14) {
@@ -249,7 +273,8 @@ fn edit_and_commit(draft: &mut Draft) {
     }
 }
 
-/// Class, block, window, checksum, control and one register more in a single write, begun or cut anywhere.
+/// Class, block, window, checksum, control and one register more in a single write, begun or cut
+/// anywhere.
 fn across(draft: &mut Draft) {
     let class = draft.any_class();
     let block = draft.any_block(class);
@@ -270,7 +295,8 @@ fn ready_again(draft: &mut Draft) {
     }
 }
 
-/// Block A edited and committed, as the mode lets it: through 0x3F with BlockDataControl 1, or as class 58, block 0.
+/// Block A edited and committed, as the mode lets it: through 0x3F with BlockDataControl 1, or as
+/// class 58, block 0.
 fn block_a(draft: &mut Draft) {
     if draft.gauge.record.general_access() {
         draft.write(0x3E, &[INFO_CLASS, 0]);
@@ -287,7 +313,8 @@ fn block_a(draft: &mut Draft) {
     }
 }
 
-/// New keys committed, then the gauge sealed and opened again with the old key, the new one or both.
+/// New keys committed, then the gauge sealed and opened again with the old key, the new one or
+/// both.
 fn rekey(draft: &mut Draft) {
     draft.open_with_control(0);
     let old = draft.unseal_words();
@@ -304,7 +331,8 @@ fn rekey(draft: &mut Draft) {
         draft.words(&old);
         status(draft);
     }
-    let new = if draft.mode() == Mode::Sealed { draft.unseal_words() } else { draft.full_access_words() };
+    let new =
+        if draft.mode() == Mode::Sealed { draft.unseal_words() } else { draft.full_access_words() };
     draft.words(&new);
     status(draft);
 }

@@ -9,7 +9,8 @@ use std::thread::sleep;
 use std::time::{Duration, Instant};
 
 const TIME_LIMIT: Duration = Duration::from_secs(20);
-/// A program that prints without end is stopped when its output is this much longer than the expected one.
+/// A program that prints without end is stopped when its output is this much longer than the
+/// expected one.
 const TOO_LONG: u64 = 10_000_000;
 
 pub enum Ending {
@@ -41,8 +42,8 @@ pub fn write_inputs(folder: &Path, case: &Case) -> io::Result<()> {
     Ok(())
 }
 
-/// Runs the program with `folder` as its current folder. Its two outputs go to files beside that folder: nothing has to be
-/// read while it runs.
+/// Runs the program with `folder` as its current folder. Its two outputs go to files beside that
+/// folder: nothing has to be read while it runs.
 pub fn run(program: &Path, folder: &Path, expected_length: usize) -> io::Result<Outcome> {
     let (output, messages) = (folder.with_extension("stdout"), folder.with_extension("stderr"));
     let mut child = Command::new(program)
@@ -52,7 +53,11 @@ pub fn run(program: &Path, folder: &Path, expected_length: usize) -> io::Result<
         .stderr(File::create(&messages)?)
         .spawn()?;
     let ending = wait(&mut child, &output, expected_length as u64 + TOO_LONG)?;
-    Ok(Outcome { ending, output: fs::read(output)?, messages: String::from_utf8_lossy(&fs::read(messages)?).into_owned() })
+    Ok(Outcome {
+        ending,
+        output: fs::read(output)?,
+        messages: String::from_utf8_lossy(&fs::read(messages)?).into_owned(),
+    })
 }
 
 fn wait(child: &mut Child, output: &Path, longest: u64) -> io::Result<Ending> {
@@ -87,7 +92,10 @@ pub fn differences(case: &Case, expected: &[u8], outcome: &Outcome) -> Vec<Strin
         Ending::Exited(_) => {}
     }
     if outcome.output != expected {
-        found.push(format!("standard output differs in line {}", first_difference(expected, &outcome.output)));
+        found.push(format!(
+            "standard output differs in line {}",
+            first_difference(expected, &outcome.output)
+        ));
     }
     let reasons = reasons(case);
     if reasons.is_empty() && !outcome.messages.is_empty() {
@@ -113,7 +121,8 @@ fn reasons(case: &Case) -> Vec<String> {
         None => reasons.push("script.hex: ".to_string()),
         Some(text) => {
             let line = model::script::first_bad_line(text);
-            reasons.extend(line.map(|line| format!("script.hex: no script: line {line} is no frame")));
+            reasons
+                .extend(line.map(|line| format!("script.hex: no script: line {line} is no frame")));
         }
     }
     reasons
@@ -130,7 +139,13 @@ fn first_difference(expected: &[u8], actual: &[u8]) -> usize {
 }
 
 /// Moves a failing case to `kept`, with the expected and the actual output.
-pub fn keep(folder: &Path, kept: &Path, expected: &[u8], outcome: &Outcome, found: &[String]) -> io::Result<()> {
+pub fn keep(
+    folder: &Path,
+    kept: &Path,
+    expected: &[u8],
+    outcome: &Outcome,
+    found: &[String],
+) -> io::Result<()> {
     fs::rename(folder, kept)?;
     fs::write(kept.join("expected"), expected)?;
     fs::write(kept.join("actual"), &outcome.output)?;

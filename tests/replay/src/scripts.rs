@@ -1,16 +1,22 @@
 //! Good scripts: one function a kind.
 
 use crate::draft::Draft;
-use crate::flash::Flash;
 use crate::moves::{self, play, step, Moves, INFO, KEYS, REKEY, SPANS, TRANSFER, WORDS};
-use crate::random::Random;
+use generator::flash::Flash;
+use generator::random::Random;
 use model::layout::checksum;
 
-/// The sizes at which a program that reads in pieces is likely to cut; smaller powers of two divide it.
+/// The sizes at which a program that reads in pieces is likely to cut; smaller powers of two divide
+/// it.
 pub const PIECE: usize = 65_536;
 
 /// Moves of these tables from power-on.
-pub fn from_power_on(random: &mut Random, flash: &Flash, tables: &[&Moves], lines: usize) -> Vec<u8> {
+pub fn from_power_on(
+    random: &mut Random,
+    flash: &Flash,
+    tables: &[&Moves],
+    lines: usize,
+) -> Vec<u8> {
     let mut draft = Draft::new(random, flash);
     play(&mut draft, tables, lines);
     draft.text
@@ -109,7 +115,8 @@ pub const STRADDLING: &str = "lines cut at 65,536";
 /// How many multiples of `PIECE` a script of that kind goes over.
 const CUTS: usize = 8;
 
-/// Lines cut by a multiple of `PIECE` at every offset: each case takes the next few of all pairs of a line and an offset.
+/// Lines cut by a multiple of `PIECE` at every offset: each case takes the next few of all pairs of
+/// a line and an offset.
 pub fn straddling(random: &mut Random, flash: &Flash, ordinal: usize) -> Vec<u8> {
     let mut draft = Draft::new(random, flash);
     draft.open_with_control(0);
@@ -141,7 +148,8 @@ fn cut_count() -> usize {
     CUT_LENGTHS.iter().sum()
 }
 
-/// Lengths of the lines to be cut, line feed included: a write of nothing, a read, a word, 0x3E to 0x61, 255 data bytes.
+/// Lengths of the lines to be cut, line feed included: a write of nothing, a read, a word, 0x3E to
+/// 0x61, 255 data bytes.
 const CUT_LENGTHS: [usize; 5] = [5, 7, 9, 77, 515];
 
 /// The line length and the offset in that line of one pair.
@@ -177,7 +185,8 @@ fn write_of_length(draft: &mut Draft, length: usize) {
     draft.write(register, &bytes);
 }
 
-/// Moves, then writes that end the script at exactly this length. A line has an odd number of characters, 5 at least.
+/// Moves, then writes that end the script at exactly this length. A line has an odd number of
+/// characters, 5 at least.
 fn fill_to(draft: &mut Draft, length: usize) {
     const LONGEST_MOVE: usize = 2_000;
     while draft.text.len() + LONGEST_MOVE < length {

@@ -8,7 +8,8 @@ use model::record::{Boot, Mode};
 use model::script::{frame, Frame, MAX_FRAME};
 use model::{imagefile, script, text};
 
-/// What is counted: refusals 1 to 9 first, those of spans and bytes, under their own numbers less one.
+/// What is counted: refusals 1 to 9 first, those of spans and bytes, under their own numbers less
+/// one.
 const EVENTS: [&str; 13] = [
     "refusal 1",
     "refusal 2",
@@ -70,7 +71,12 @@ impl Tally {
     }
 
     pub fn print(&self) {
-        println!("{} cases of {} kinds compared, {} script lines answered", self.cases, KINDS.len(), self.lines);
+        println!(
+            "{} cases of {} kinds compared, {} script lines answered",
+            self.cases,
+            KINDS.len(),
+            self.lines
+        );
         for ((event, times), cases) in EVENTS.iter().zip(self.times).zip(self.in_cases) {
             println!("{event:>26}: {times:>7} times in {cases:>4} cases");
         }
@@ -110,7 +116,9 @@ fn run(case: &Case, times: &mut Counts) -> usize {
         lines += 1;
         let error = match frame(line, &mut buffer).expect("a valid script") {
             Frame::Write { register, bytes } => run_write(&mut gauge, register, bytes, times),
-            Frame::Read { register, count } => gauge.read(register, usize::from(count), &mut [0; 255]).err(),
+            Frame::Read { register, count } => {
+                gauge.read(register, usize::from(count), &mut [0; 255]).err()
+            }
         };
         if let Some(error) = error {
             times[usize::from(error.number()) - 1] += 1;

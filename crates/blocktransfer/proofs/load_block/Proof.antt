@@ -1,4 +1,5 @@
--- `blocktransfer::load_block` meets its contract. By the part that was handed out: one with bytes was found.
+-- `blocktransfer::load_block` meets its contract. By the part that was handed out: one with bytes
+-- was found.
 use borrow.Author.Needs.{needs}
 use Rattle.blocktransfer.proofs.TransferLaws.{part-most, block-loads, block-refused}
 use Rattle.blocktransfer.proofs.load_block.Statement.{statement}

@@ -1,4 +1,5 @@
--- `checksum::low_sum` meets its contract. The invariant: the wrapped sum so far and what is left make the whole sum, modulo 256.
+-- `checksum::low_sum` meets its contract. The invariant: the wrapped sum so far and what is left
+-- make the whole sum, modulo 256.
 use mathlib.Core.Path.{_≡_}
 use Prim.Native.Nat.{_+_, _-_, _%_, _≤_, _<_}
 use lib.ListN.{length, drop}

@@ -1,4 +1,5 @@
--- `dataflash::block` meets its contract. By the cases of the lookup; a block that was found lies inside the image.
+-- `dataflash::block` meets its contract. By the cases of the lookup; a block that was found lies
+-- inside the image.
 use borrow.Author.Needs.{needs}
 use Rattle.flashrules.specs.Image.{blockBytes, blockPlace}
 use Rattle.flashrules.proofs.Picks.{calls}

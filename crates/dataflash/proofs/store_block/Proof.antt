@@ -1,4 +1,5 @@
--- `dataflash::store_block` meets its contract. By the cases of the lookup; a block that was found lies inside the image.
+-- `dataflash::store_block` meets its contract. By the cases of the lookup; a block that was found
+-- lies inside the image.
 use borrow.Author.Needs.{needs}
 use Rattle.flashrules.specs.Image.{storeBlock}
 use Rattle.flashrules.proofs.Picks.{calls}

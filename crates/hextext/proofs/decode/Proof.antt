@@ -1,4 +1,5 @@
--- `hextext::decode` meets its contract. The invariant: what is left to read gives what the whole gives.
+-- `hextext::decode` meets its contract. The invariant: what is left to read gives what the whole
+-- gives.
 use borrow.Author.Needs.{needs}
 use mathlib.Core.Path.{_≡_}
 use Prim.Native.Nat.{_-_, _≤_}

@@ -1,4 +1,5 @@
--- `hextext::encode` meets its contract. The invariant: what is left to write gives what the whole gives.
+-- `hextext::encode` meets its contract. The invariant: what is left to write gives what the whole
+-- gives.
 use borrow.Author.Needs.{needs}
 use mathlib.Core.Path.{_≡_}
 use Prim.Native.Nat.{_-_}

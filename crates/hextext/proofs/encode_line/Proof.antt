@@ -1,4 +1,5 @@
--- `hextext::encode_line` meets its contract. The bytes, and the line feed where there is room for it.
+-- `hextext::encode_line` meets its contract. The bytes, and the line feed where there is room for
+-- it.
 use borrow.Author.Needs.{needs}
 use Rattle.hextext.proofs.HexLaws.{line-outside, line-cut, line-stored}
 use Rattle.hextext.proofs.encode_line.Statement.{statement}

@@ -1,4 +1,5 @@
--- `imagereader::is_text_of` meets its contract. The text that is written again is that of the image.
+-- `imagereader::is_text_of` meets its contract. The text that is written again is that of the
+-- image.
 use borrow.Author.Needs.{needs}
 use Rattle.imagereader.proofs.FileLaws.{size-within, text-is, text-not}
 use Rattle.imagereader.proofs.is_text_of.Statement.{statement}

@@ -1,4 +1,5 @@
--- `scriptparser::feed` meets its contract. The invariant: what is left to feed gives what the whole gives.
+-- `scriptparser::feed` meets its contract. The invariant: what is left to feed gives what the whole
+-- gives.
 use borrow.Author.Needs.{needs}
 use mathlib.Core.Path.{_≡_}
 use Prim.Native.Nat.{_-_}

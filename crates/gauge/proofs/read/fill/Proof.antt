@@ -1,4 +1,5 @@
--- `gauge::read::fill` meets its contract. The invariant: what is left to fill gives what the whole gives.
+-- `gauge::read::fill` meets its contract. The invariant: what is left to fill gives what the whole
+-- gives.
 use borrow.Author.Needs.{needs}
 use mathlib.Core.Path.{_≡_}
 use mathlib.Core.List.{_++_}

@@ -1,4 +1,5 @@
--- `gauge::write::write_bytes` meets its contract. The invariant: what is left to write gives what the whole gives.
+-- `gauge::write::write_bytes` meets its contract. The invariant: what is left to write gives what
+-- the whole gives.
 use borrow.Author.Needs.{needs}
 use mathlib.Core.Path.{_≡_}
 use Prim.Native.Nat.{_+_, _-_, _≤_}

@@ -1,4 +1,5 @@
--- `gaugestate::valid::is_zero` meets its contract. The invariant: what is left to test gives what the whole gives.
+-- `gaugestate::valid::is_zero` meets its contract. The invariant: what is left to test gives what
+-- the whole gives.
 use borrow.Author.Needs.{needs}
 use mathlib.Core.Path.{_≡_}
 use Prim.Native.Nat.{_-_, _≤_}

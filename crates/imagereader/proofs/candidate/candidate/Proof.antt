@@ -1,4 +1,5 @@
--- `imagereader::candidate::candidate` meets its contract. The invariant: what is left of the text gives what the whole gives.
+-- `imagereader::candidate::candidate` meets its contract. The invariant: what is left of the text
+-- gives what the whole gives.
 use borrow.Author.Needs.{needs}
 use Prim.Native.Nat.{_-_}
 use Rattle.imagerules.specs.Text.{maxLines}

@@ -1,4 +1,5 @@
--- `imagewriter::text::put_class` meets its contract. The invariant: what is left to write gives what the whole gives.
+-- `imagewriter::text::put_class` meets its contract. The invariant: what is left to write gives
+-- what the whole gives.
 use borrow.Author.Needs.{needs}
 use Prim.Native.Nat.{_-_}
 use lib.ListN.{length}

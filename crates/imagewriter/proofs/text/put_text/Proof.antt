@@ -1,4 +1,5 @@
--- `imagewriter::text::put_text` meets its contract. The invariant: what is left to write gives what the whole gives.
+-- `imagewriter::text::put_text` meets its contract. The invariant: what is left to write gives what
+-- the whole gives.
 use borrow.Author.Needs.{needs}
 use Prim.Native.Nat.{_-_}
 use Rattle.imagewriter.proofs.WriteLaws.{ClassAt, class-start, class-end, part-small, part-inside, part-room, class-next}

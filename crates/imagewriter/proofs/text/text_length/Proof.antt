@@ -1,4 +1,5 @@
--- `imagewriter::text::text_length` meets its contract. The invariant: what is left to sum gives what the whole gives.
+-- `imagewriter::text::text_length` meets its contract. The invariant: what is left to sum gives
+-- what the whole gives.
 use borrow.Author.Needs.{needs}
 use mathlib.Core.Path.{_≡_}
 use Prim.Native.Nat.{_+_, _-_, _*_, _≤_}

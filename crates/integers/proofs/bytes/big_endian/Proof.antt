@@ -1,4 +1,5 @@
--- `integers::bytes::big_endian` meets its contract. The invariant: what is left to write gives what the whole gives.
+-- `integers::bytes::big_endian` meets its contract. The invariant: what is left to write gives what
+-- the whole gives.
 use Prim.Native.Nat.{_+_}
 use mathlib.Core.Path.{_≡_}
 use borrow.Author.Needs.{needs}

@@ -1,5 +1,5 @@
--- `integers::bytes::magnitude_of` meets its contract. The invariant: what is left to read, with what was read, gives what the whole gives; each
--- turn adds less than 2 ^ 40.
+-- `integers::bytes::magnitude_of` meets its contract. The invariant: what is left to read, with
+-- what was read, gives what the whole gives; each turn adds less than 2 ^ 40.
 use Prim.Native.Nat.{_+_, _*_, _≤_}
 use mathlib.Core.Path.{_≡_}
 use borrow.Author.Needs.{needs}

@@ -1,4 +1,5 @@
--- `integers::sign::magnitude` meets its contract. By the sign: -1 - v of a negative v overflows nowhere.
+-- `integers::sign::magnitude` meets its contract. By the sign: -1 - v of a negative v overflows
+-- nowhere.
 use Rattle.integers.proofs.Machine.{cast-up, cast-fits, cast-is, plain-is, minus-fits, minus-is}
 use Rattle.integers.proofs.sign.magnitude.Statement.{statement}
 use Rattle.integers.proofs.sign.magnitude.Tie as tie

@@ -1,4 +1,5 @@
--- `layout::lookup::locate` meets its contract. The invariant: what is left to search gives what the whole gives.
+-- `layout::lookup::locate` meets its contract. The invariant: what is left to search gives what the
+-- whole gives.
 use mathlib.Core.Path.{_≡_}
 use Prim.Native.Nat.{_-_, _*_, _≤_}
 use lib.ListN.{drop}

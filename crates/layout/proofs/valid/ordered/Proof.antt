@@ -1,4 +1,5 @@
--- `layout::valid::ordered` meets its contract. The invariant: what is left to test gives what the whole gives.
+-- `layout::valid::ordered` meets its contract. The invariant: what is left to test gives what the
+-- whole gives.
 use mathlib.Core.Path.{_≡_}
 use Prim.Native.Nat.{_-_, _≤_}
 use lib.ListN.{drop}

@@ -1,4 +1,5 @@
--- `layout::valid::size` meets its contract. The invariant: the sum so far and what is left make the whole.
+-- `layout::valid::size` meets its contract. The invariant: the sum so far and what is left make the
+-- whole.
 use mathlib.Core.Path.{_≡_}
 use Prim.Native.Nat.{_+_, _-_, _*_, _≤_}
 use lib.ListN.{drop}

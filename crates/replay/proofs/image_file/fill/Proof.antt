@@ -1,4 +1,5 @@
--- `replay::image_file::fill` meets its contract. The invariant: what is filled is within the buffer.
+-- `replay::image_file::fill` meets its contract. The invariant: what is filled is within the
+-- buffer.
 use borrow.Author.Needs.{needs}
 use mathlib.Core.Path.{_≡_}
 use Prim.Native.Nat.{_-_, _≤_}

@@ -1,4 +1,5 @@
--- `replay::image_file::load` meets its contract. The image that was read is within the buffer, and goes with its layout.
+-- `replay::image_file::load` meets its contract. The image that was read is within the buffer, and
+-- goes with its layout.
 use borrow.Author.Needs.{needs}
 use Rattle.imagerules.proofs.CallLaws.{read-within}
 use Rattle.replay.proofs.CheckedLaws.{read-checked}

@@ -1,4 +1,5 @@
--- `replay::pass::keep` meets its contract. The invariant: the front is what stood further on, and the rest is as it was.
+-- `replay::pass::keep` meets its contract. The invariant: the front is what stood further on, and
+-- the rest is as it was.
 use borrow.Author.Needs.{needs}
 use mathlib.Core.Path.{_≡_}
 use Prim.Native.Nat.{_-_, _≤_}

@@ -1,10 +1,12 @@
--- `replay::pass::turn` meets its contract. What is held is run, and where that took nothing, more is read.
+-- `replay::pass::turn` meets its contract. What is held is run, and where that took nothing, more
+-- is read.
 use borrow.Author.Needs.{needs}
 use Rattle.replay.proofs.EventLaws.{turn-ran, turn-read}
 use Rattle.replay.proofs.pass.turn.Statement.{statement}
 use Rattle.replay.proofs.pass.turn.Tie as tie
 
--- where lines were run: what the run ensures and what `turn` requires lie too far back for a search to find them
+-- where lines were run: what the run ensures and what `turn` requires lie too far back for a search
+-- to find them
 returns-2 : tie.Need-returns-2
 returns-2 c =
     let ran = c .before .before .before .before .before .before .before .before .before .before .before .run-held .ensures in

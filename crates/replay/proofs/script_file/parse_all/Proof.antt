@@ -1,5 +1,5 @@
--- `replay::script_file::parse_all` meets its contract. The invariant: what was fed so far led to the state. It ends, since its turns are
--- counted.
+-- `replay::script_file::parse_all` meets its contract. The invariant: what was fed so far led to
+-- the state. It ends, since its turns are counted.
 use borrow.Author.Needs.{needs}
 use mathlib.Core.Path.{_≡_}
 use lib.ListN.{length}

@@ -1,4 +1,5 @@
--- `scriptrunner::run::frame_length` meets its contract. A frame has an even number of digits, four at least.
+-- `scriptrunner::run::frame_length` meets its contract. A frame has an even number of digits, four
+-- at least.
 use Rattle.scriptrunner.proofs.DecodeLaws.{half-bytes, half-least, half-most}
 use Rattle.scriptrunner.proofs.run.frame_length.Statement.{statement}
 use Rattle.scriptrunner.proofs.run.frame_length.Tie as tie

@@ -1,4 +1,5 @@
--- `scriptrunner::run::run` meets its contract. The invariant: the lines that are left give what the whole text gives.
+-- `scriptrunner::run::run` meets its contract. The invariant: the lines that are left give what the
+-- whole text gives.
 use borrow.Author.Needs.{needs}
 use mathlib.Core.Path.{_≡_}
 use Prim.Native.Nat.{_-_, _≤_}

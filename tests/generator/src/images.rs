@@ -6,7 +6,8 @@ use crate::random::Random;
 use model::layout::{INFO_CLASS, KEY_CLASS, MAX_CLASS_LENGTH, MAX_IMAGE_LENGTH};
 use model::text::push_byte;
 
-/// A valid flash with the class of the given number replaced by bytes of another length, or left out for length 0.
+/// A valid flash with the class of the given number replaced by bytes of another length, or left
+/// out for length 0.
 fn with_length(random: &mut Random, id: u8, length: usize) -> Vec<u8> {
     let mut flash = flash::any(random);
     if length == 0 {
@@ -68,7 +69,10 @@ pub fn classes_33(random: &mut Random) -> Vec<u8> {
 pub fn bytes_4097(random: &mut Random) -> Vec<u8> {
     let mut flash = flash::full(random);
     assert_eq!(flash.length(), MAX_IMAGE_LENGTH);
-    let growing = flash.classes.iter_mut().find(|class| class.id != INFO_CLASS && class.bytes.len() < MAX_CLASS_LENGTH);
+    let growing = flash
+        .classes
+        .iter_mut()
+        .find(|class| class.id != INFO_CLASS && class.bytes.len() < MAX_CLASS_LENGTH);
     growing.expect("not every class of a full flash is a longest one").bytes.push(0);
     flash.text()
 }
@@ -104,13 +108,28 @@ pub fn wrong_checksum(random: &mut Random) -> Vec<u8> {
 
 /// The text of a flash with the lines of one class replaced.
 fn with_lines(flash: &Flash, id: u8, lines: &[Vec<u8>]) -> Vec<u8> {
-    let parts = flash.classes.iter().map(|class| if class.id == id { lines.concat() } else { flash::class_text(class) });
+    let parts = flash.classes.iter().map(|class| {
+        if class.id == id {
+            lines.concat()
+        } else {
+            flash::class_text(class)
+        }
+    });
     parts.collect::<Vec<_>>().concat()
 }
 
 /// Block numbers that do not run 0, 1, 2.
 pub fn block_numbers(random: &mut Random) -> Vec<u8> {
-    let numbers = random.pick(&[[0, 2, 3], [0, 1, 3], [1, 2, 3], [0, 2, 1], [0, 0, 1], [0, 1, 1], [0, 1, 255], [2, 1, 0]]);
+    let numbers = random.pick(&[
+        [0, 2, 3],
+        [0, 1, 3],
+        [1, 2, 3],
+        [0, 2, 1],
+        [0, 0, 1],
+        [0, 1, 1],
+        [0, 1, 255],
+        [2, 1, 0],
+    ]);
     let lines = numbers.map(|number| line(INFO_CLASS, number, &[number; 32]));
     with_lines(&flash::any(random), INFO_CLASS, &lines)
 }
@@ -119,7 +138,8 @@ pub fn block_numbers(random: &mut Random) -> Vec<u8> {
 pub fn first_block_number(random: &mut Random) -> Vec<u8> {
     let text = flash::any(random).text();
     let mut lines = damage::lines(&text);
-    let firsts: Vec<usize> = (0..lines.len()).filter(|&place| &lines[place][2..4] == b"00").collect();
+    let firsts: Vec<usize> =
+        (0..lines.len()).filter(|&place| &lines[place][2..4] == b"00").collect();
     let place = random.pick(&firsts);
     let number = random.pick(&[&b"01"[..], b"02", b"10", b"FF"]);
     let changed = [&lines[place][..2], number, &lines[place][4..]].concat();
@@ -129,8 +149,10 @@ pub fn first_block_number(random: &mut Random) -> Vec<u8> {
 
 /// A short block that is not the last of its class; 96 bytes all the same.
 pub fn short_block_inside(random: &mut Random) -> Vec<u8> {
-    let lengths = random.pick(&[[31, 32, 32, 1], [32, 31, 32, 1], [32, 32, 31, 1], [1, 32, 32, 31]]);
-    let lines = [0, 1, 2, 3].map(|block| line(INFO_CLASS, block, &vec![block; lengths[usize::from(block)]]));
+    let lengths =
+        random.pick(&[[31, 32, 32, 1], [32, 31, 32, 1], [32, 32, 31, 1], [1, 32, 32, 31]]);
+    let lines = [0, 1, 2, 3]
+        .map(|block| line(INFO_CLASS, block, &vec![block; lengths[usize::from(block)]]));
     with_lines(&flash::any(random), INFO_CLASS, &lines)
 }
 
@@ -138,7 +160,11 @@ pub fn short_block_inside(random: &mut Random) -> Vec<u8> {
 pub fn long_block(random: &mut Random) -> Vec<u8> {
     let mut flash = flash::any(random);
     if random.chance(30) {
-        return with_lines(&flash, INFO_CLASS, &[line(INFO_CLASS, 0, &[0; 32]), line(INFO_CLASS, 1, &[0; 64])]);
+        return with_lines(
+            &flash,
+            INFO_CLASS,
+            &[line(INFO_CLASS, 0, &[0; 32]), line(INFO_CLASS, 1, &[0; 64])],
+        );
     }
     let length = random.pick(&[33, 33, 33, 34, 64]);
     flash.class(KEY_CLASS).bytes.resize(length, 0);

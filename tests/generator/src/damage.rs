@@ -82,7 +82,8 @@ pub fn line_broken(random: &mut Random, text: &[u8]) -> Vec<u8> {
 
 /// All digits, or one of them, in lower case. Without a letter in the text, one is put in.
 pub fn lower_case(random: &mut Random, text: &[u8]) -> Vec<u8> {
-    let letters: Vec<usize> = (0..text.len()).filter(|&place| text[place].is_ascii_uppercase()).collect();
+    let letters: Vec<usize> =
+        (0..text.len()).filter(|&place| text[place].is_ascii_uppercase()).collect();
     if letters.is_empty() {
         let place = any_digit(random, text);
         return replaced(text, place, place + 1, b"a");
@@ -96,7 +97,10 @@ pub fn lower_case(random: &mut Random, text: &[u8]) -> Vec<u8> {
 
 pub fn carriage_returns(random: &mut Random, text: &[u8]) -> Vec<u8> {
     if random.chance(40) {
-        return lines(text).iter().flat_map(|line| [&line[..line.len() - 1], b"\r\n"].concat()).collect();
+        return lines(text)
+            .iter()
+            .flat_map(|line| [&line[..line.len() - 1], b"\r\n"].concat())
+            .collect();
     }
     let place = any_line_end(random, text);
     let instead = random.pick(&[&b"\r\n"[..], b"\r", b"\n\r"]);
@@ -131,7 +135,8 @@ pub fn byte_order_mark(_: &mut Random, text: &[u8]) -> Vec<u8> {
 
 /// Cut anywhere, sometimes at the end of a line.
 pub fn truncated(random: &mut Random, text: &[u8]) -> Vec<u8> {
-    let end = if random.chance(20) { any_line_end(random, text) + 1 } else { any_place(random, text) };
+    let end =
+        if random.chance(20) { any_line_end(random, text) + 1 } else { any_place(random, text) };
     text[..end].to_vec()
 }
 
@@ -158,8 +163,19 @@ pub fn line_removed(random: &mut Random, text: &[u8]) -> Vec<u8> {
 
 /// One more line, which is not a good one, at the very end.
 pub fn bad_last_line(random: &mut Random, text: &[u8]) -> Vec<u8> {
-    let line =
-        random.pick(&[&b"0\n"[..], b"\n", b"0a\n", b"0", b"02\n", b"01\n", b"000\n", b"\0", b" \n", b"\xFF\n", b"\x1A"]);
+    let line = random.pick(&[
+        &b"0\n"[..],
+        b"\n",
+        b"0a\n",
+        b"0",
+        b"02\n",
+        b"01\n",
+        b"000\n",
+        b"\0",
+        b" \n",
+        b"\xFF\n",
+        b"\x1A",
+    ]);
     [text, line].concat()
 }
 

@@ -1,7 +1,7 @@
 //! The table of all kinds of cases, and the case of each number.
 
-use crate::layouts::{self, Device};
-use crate::rows::{row, size, value};
+use super::layouts::{self, Device};
+use super::rows::{row, size, value};
 use crate::station::Layout;
 use generator::random::Random;
 use model::parameter::Parameter;
@@ -22,7 +22,12 @@ pub struct Kind {
     make: fn(&mut Random) -> Case,
 }
 
-const fn kind(weight: usize, name: &'static str, is_valid: bool, make: fn(&mut Random) -> Case) -> Kind {
+const fn kind(
+    weight: usize,
+    name: &'static str,
+    is_valid: bool,
+    make: fn(&mut Random) -> Case,
+) -> Kind {
     Kind { name, weight, is_valid, make }
 }
 
@@ -54,7 +59,8 @@ fn total_weight() -> usize {
     KINDS.iter().map(|kind| kind.weight).sum()
 }
 
-/// The place in the table of the kind of case `number`: every `total_weight()` cases go once through the table.
+/// The place in the table of the kind of case `number`: every `total_weight()` cases go once
+/// through the table.
 pub fn kind_of(number: usize) -> usize {
     let mut rest = number % total_weight();
     for (place, kind) in KINDS.iter().enumerate() {
@@ -71,7 +77,8 @@ pub fn case(seed: u64, number: usize) -> Case {
     (KINDS[kind_of(number)].make)(&mut Random::new(seed, number as u64))
 }
 
-/// Any row and any value. In half of the cases such a value stands at the row's place already, now and then the same one.
+/// Any row and any value. In half of the cases such a value stands at the row's place already, now
+/// and then the same one.
 fn on(random: &mut Random, make: fn(&mut Random) -> Device) -> Case {
     let mut device = make(random);
     let parameter = row(random, &device.layout);
@@ -89,7 +96,8 @@ fn on(random: &mut Random, make: fn(&mut Random) -> Device) -> Case {
 /// Where the row's bytes would be in the image, wherever that is.
 pub fn place(layout: &Layout, parameter: &Parameter) -> Range<usize> {
     let before = layout.entries().take_while(|entry| entry.0 != parameter.class);
-    let start = before.map(|entry| usize::from(entry.1)).sum::<usize>() + usize::from(parameter.offset);
+    let start =
+        before.map(|entry| usize::from(entry.1)).sum::<usize>() + usize::from(parameter.offset);
     start..start + size(parameter.kind)
 }
 
@@ -103,12 +111,14 @@ fn put(device: &mut Device, parameter: &Parameter, value: i64) {
 /// "two bytes at offset 31: 12; at 30: accepted"
 fn p11(random: &mut Random) -> Case {
     let kind = random.pick(&[0x02, 0x82]);
-    let parameter = Parameter { class: 48, offset: random.pick(&[30, 31]), kind, min: 0, max: 1_000 };
+    let parameter =
+        Parameter { class: 48, offset: random.pick(&[30, 31]), kind, min: 0, max: 1_000 };
     Case { device: layouts::plain(random), parameter, value: 258 }
 }
 
 /// "signed byte -128 is 80"
 fn p12(random: &mut Random) -> Case {
-    let parameter = Parameter { class: 48, offset: random.below(64) as u16, kind: 0x81, min: -128, max: 127 };
+    let parameter =
+        Parameter { class: 48, offset: random.below(64) as u16, kind: 0x81, min: -128, max: 127 };
     Case { device: layouts::plain(random), parameter, value: -128 }
 }

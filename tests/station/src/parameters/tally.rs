@@ -1,16 +1,22 @@
 //! What the compared cases met, so that a generator that has lost its variety is noticed.
 
-use crate::cases::{Case, KINDS};
-use crate::compare::Outcome;
-use crate::rows;
+use super::cases::{Case, KINDS};
+use super::compare::Outcome;
+use super::rows;
 use model::error::Error;
 use model::layout::BLOCK_LENGTH;
 
 /// What get and set can answer, in the order of the refusals. Get never gives 13.
 const ERRORS: [u8; 6] = [0, 10, 11, 4, 12, 13];
 
-const EVENTS: [&str; 6] =
-    ["negative read", "read in range", "read outside", "negative set", "set changing nothing", "set at a block's end"];
+const EVENTS: [&str; 6] = [
+    "negative read",
+    "read in range",
+    "read outside",
+    "negative set",
+    "set changing nothing",
+    "set at a block's end",
+];
 
 /// Anything met fewer times than this fails the run.
 const FLOOR: usize = 300;
@@ -39,7 +45,9 @@ impl Tally {
         for (count, met) in self.events.iter_mut().zip(events(case, outcome)) {
             *count += usize::from(met);
         }
-        if let (Ok(()), Some(kind)) = (outcome.set, rows::KINDS.iter().position(|&kind| kind == case.parameter.kind)) {
+        if let (Ok(()), Some(kind)) =
+            (outcome.set, rows::KINDS.iter().position(|&kind| kind == case.parameter.kind))
+        {
             self.rows[kind] += 1;
         }
         let faults = faults(case);
@@ -52,10 +60,13 @@ impl Tally {
 
     /// All counts but those of the kinds of cases, by topic, each with its name.
     fn topics(&self) -> Vec<(&str, Vec<(String, usize)>)> {
-        let numbered = |counts: &[usize]| ERRORS.iter().map(u8::to_string).zip(counts.iter().copied()).collect::<Vec<_>>();
+        let numbered = |counts: &[usize]| {
+            ERRORS.iter().map(u8::to_string).zip(counts.iter().copied()).collect::<Vec<_>>()
+        };
         let rows = rows::KINDS.iter().map(|kind| format!("{kind:02X}")).zip(self.rows);
         let events = EVENTS.iter().map(ToString::to_string).zip(self.events);
-        let pairs = (1..ERRORS.len()).flat_map(|first| (first + 1..ERRORS.len()).map(move |second| (first, second)));
+        let pairs = (1..ERRORS.len())
+            .flat_map(|first| (first + 1..ERRORS.len()).map(move |second| (first, second)));
         let pairs = pairs.map(|(a, b)| (format!("{}+{}", ERRORS[a], ERRORS[b]), self.pairs[a][b]));
         vec![
             ("answers of get", numbered(&self.get[..ERRORS.len() - 1])),
@@ -69,7 +80,8 @@ impl Tally {
     pub fn print(&self) {
         println!("{} cases of {} kinds compared", self.cases, KINDS.len());
         for (topic, counts) in self.topics() {
-            let counts: Vec<String> = counts.iter().map(|(name, count)| format!("{name}: {count}")).collect();
+            let counts: Vec<String> =
+                counts.iter().map(|(name, count)| format!("{name}: {count}")).collect();
             println!("{topic}: {}", counts.join(", "));
         }
     }
@@ -108,8 +120,8 @@ fn events(case: &Case, outcome: &Outcome) -> [bool; EVENTS.len()] {
     ]
 }
 
-/// Which refusals a case gives cause for, at the places of ERRORS: each judged without regard to the others. Without a class, 12
-/// is a block's end crossed.
+/// Which refusals a case gives cause for, at the places of ERRORS: each judged without regard to
+/// the others. Without a class, 12 is a block's end crossed.
 fn faults(case: &Case) -> [bool; ERRORS.len()] {
     let parameter = &case.parameter;
     let layout = case.device.layout.for_model();
@@ -121,7 +133,8 @@ fn faults(case: &Case) -> [bool; ERRORS.len()] {
         layout.check_image(case.device.image.len()).is_err(),
         parameter.valid_kind().is_err(),
         class.is_none(),
-        start % BLOCK_LENGTH + (end - start) > BLOCK_LENGTH || class.is_some_and(|class| end > class.length),
+        start % BLOCK_LENGTH + (end - start) > BLOCK_LENGTH
+            || class.is_some_and(|class| end > class.length),
         !parameter.in_range(case.value),
     ]
 }

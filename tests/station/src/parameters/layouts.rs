@@ -11,9 +11,11 @@ pub struct Device {
     pub image: Vec<u8>,
 }
 
-/// Layout and image of a flash, whatever the layout's rules say, with junk in the entries past its last class.
+/// Layout and image of a flash, whatever the layout's rules say, with junk in the entries past its
+/// last class.
 fn device(random: &mut Random, flash: &Flash) -> Device {
-    let mut layout = Layout { count: flash.classes.len(), ids: [0; MAX_CLASSES], lengths: [0; MAX_CLASSES] };
+    let mut layout =
+        Layout { count: flash.classes.len(), ids: [0; MAX_CLASSES], lengths: [0; MAX_CLASSES] };
     for (place, class) in flash.classes.iter().enumerate() {
         layout.ids[place] = class.id;
         layout.lengths[place] = class.bytes.len() as u16;
@@ -31,7 +33,7 @@ fn fill_with_junk(random: &mut Random, layout: &mut Layout) {
         (layout.ids[place], layout.lengths[place]) = match kind {
             0 => (0, 0),
             1 => (u8::MAX, u16::MAX),
-            2 => (random.byte(), random.next() as u16),
+            2 => (random.byte(), random.number() as u16),
             _ => (next_id, random.between(1, 40) as u16),
         };
     }
@@ -63,8 +65,17 @@ pub fn no_class(random: &mut Random) -> Device {
 pub fn count_above_32(random: &mut Random) -> Device {
     let mut device = valid(random);
     let right = device.layout.count;
-    device.layout.count =
-        random.pick(&[33, 34, 64, 255, 256 + right, 65_536 + right, (1 << 32) + right, (1 << 63) + right, usize::MAX]);
+    device.layout.count = random.pick(&[
+        33,
+        34,
+        64,
+        255,
+        256 + right,
+        65_536 + right,
+        (1 << 32) + right,
+        (1 << 63) + right,
+        usize::MAX,
+    ]);
     device
 }
 
@@ -106,8 +117,12 @@ fn with_a_class_of(random: &mut Random, length: usize) -> Device {
     while flash.classes.len() == 2 {
         flash = flash::any(random);
     }
-    let free: Vec<u8> =
-        flash.classes.iter().map(|class| class.id).filter(|id| ![INFO_CLASS, KEY_CLASS].contains(id)).collect();
+    let free: Vec<u8> = flash
+        .classes
+        .iter()
+        .map(|class| class.id)
+        .filter(|id| ![INFO_CLASS, KEY_CLASS].contains(id))
+        .collect();
     let id = random.pick(&free);
     flash.class(id).bytes.resize(length, 0);
     device(random, &flash)
@@ -126,7 +141,8 @@ pub fn class_of_far_too_many(random: &mut Random) -> Device {
     let mut device = valid(random);
     let place = random.below(device.layout.count);
     let right = device.layout.lengths[place];
-    device.layout.lengths[place] = random.pick(&[u16::MAX, right | 0x8000, right + 4_096, right + 1_024]);
+    device.layout.lengths[place] =
+        random.pick(&[u16::MAX, right | 0x8000, right + 4_096, right + 1_024]);
     device
 }
 
@@ -164,7 +180,10 @@ pub fn key_class_of_27(random: &mut Random) -> Device {
 /// One byte more than fits.
 pub fn bytes_4097(random: &mut Random) -> Device {
     let mut flash = flash::full(random);
-    let growing = flash.classes.iter_mut().find(|class| class.id != INFO_CLASS && class.bytes.len() < MAX_CLASS_LENGTH);
+    let growing = flash
+        .classes
+        .iter_mut()
+        .find(|class| class.id != INFO_CLASS && class.bytes.len() < MAX_CLASS_LENGTH);
     growing.expect("not every class of a full flash is a longest one").bytes.push(0);
     assert_eq!(flash.length(), MAX_IMAGE_LENGTH + 1);
     device(random, &flash)

@@ -1,4 +1,5 @@
-//! Rows and values, right ones and wrong ones. Kind, range, class, offset and value are drawn apart, so that faults meet.
+//! Rows and values, right ones and wrong ones. Kind, range, class, offset and value are drawn
+//! apart, so that faults meet.
 
 use crate::station::Layout;
 use generator::random::Random;
@@ -52,7 +53,8 @@ fn kind(random: &mut Random) -> u8 {
     random.pick(&[0x00, 0x03, 0x05, 0x06, 0x08, 0x10, 0x7F, 0x80, 0x83, 0x85, 0x88, 0xFF, any, any])
 }
 
-/// A class and its length. A class that is not in the layout is a neighbour of one, mostly, or stands past the count.
+/// A class and its length. A class that is not in the layout is a neighbour of one, mostly, or
+/// stands past the count.
 fn class(random: &mut Random, layout: &Layout) -> (u8, usize) {
     let entries: Vec<(u8, u16)> = layout.entries().collect();
     if entries.is_empty() {
@@ -61,11 +63,20 @@ fn class(random: &mut Random, layout: &Layout) -> (u8, usize) {
     let (id, length) = random.pick(&entries);
     let past = layout.ids[layout.count.min(layout.ids.len() - 1)];
     let any = random.byte();
-    let near = [(85, id), (4, id.wrapping_add(1)), (4, id.wrapping_sub(1)), (3, past), (2, any), (1, 0), (1, 255)];
+    let near = [
+        (85, id),
+        (4, id.wrapping_add(1)),
+        (4, id.wrapping_sub(1)),
+        (3, past),
+        (2, any),
+        (1, 0),
+        (1, 255),
+    ];
     (random.weighted(&near), length.into())
 }
 
-/// A place for `size` bytes: inside, at the ends of blocks and of the class, past them, and far away.
+/// A place for `size` bytes: inside, at the ends of blocks and of the class, past them, and far
+/// away.
 fn offset(random: &mut Random, size: usize, length: usize) -> u16 {
     let any = random.below(length);
     let inside = any / BLOCK_LENGTH * BLOCK_LENGTH + random.below(BLOCK_LENGTH + 1 - size);
@@ -126,11 +137,12 @@ fn range(random: &mut Random, kind: u8) -> (i64, i64) {
     ])
 }
 
-/// A value for a row: inside its range, at its ends and those of its kind, just outside, and far away.
+/// A value for a row: inside its range, at its ends and those of its kind, just outside, and far
+/// away.
 pub fn value(random: &mut Random, row: &Parameter) -> i64 {
     let (low, high) = ends(row.kind);
     let inside = if row.min <= row.max { between(random, row.min, row.max) } else { row.max };
-    let any = random.next() as i64;
+    let any = random.number() as i64;
     random.weighted(&[
         (40, inside),
         (10, row.min),
@@ -156,6 +168,6 @@ pub fn value(random: &mut Random, row: &Parameter) -> i64 {
 /// A number from `low` to `high`, both included.
 fn between(random: &mut Random, low: i64, high: i64) -> i64 {
     let span = high.wrapping_sub(low) as u64;
-    let step = if span == u64::MAX { random.next() } else { random.next() % (span + 1) };
+    let step = if span == u64::MAX { random.number() } else { random.number() % (span + 1) };
     low.wrapping_add(step as i64)
 }

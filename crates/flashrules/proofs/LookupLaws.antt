@@ -31,7 +31,7 @@ module _ (s n b o : ℕ) (p : o ≡ blockSize * b) where
 
 -- ---- the class search
 
-refused-found : (e s k : ℕ) → Lookup.Refused e ≡ Lookup.Found s k → ⊥
+pub refused-found : (e s k : ℕ) → Lookup.Refused e ≡ Lookup.Found s k → ⊥
 refused-found e s k p = let z : _≡_ {A = ℕ} 0 1 = cc in omega arith
 
 -- the search in a list of classes is over, or goes on in the rest

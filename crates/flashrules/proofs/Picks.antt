@@ -102,6 +102,11 @@ and-rest false u e = absurd (true≢false (sym e))
 pub and-both : (t u : Bool) → t ≡ true → u ≡ true → cond t u false ≡ true
 and-both t u p q = rw (p, q)
 
+-- a test that is negated twice
+pub not-not : (t : Bool) → t ≡ not (not t)
+not-not true = refl
+not-not false = refl
+
 -- the same list, by its test
 pub same-refl : (xs : List ℕ) → same xs xs ≡ true
 same-refl [] = refl

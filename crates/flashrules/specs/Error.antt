@@ -1,4 +1,5 @@
--- The error numbers, in the order of document 01's table, "Numbers of the refusals"; 0 is none.
+-- The error numbers, in the order of document 01's table, "Numbers of the refusals", and behind it
+-- those of document 02; 0 is none.
 use Prim.Native.Nat.{ℕ}
 
 -- 1: "n is 0 or r + n above 128"
@@ -60,3 +61,7 @@ shortBuffer = 14
 -- 15: "record not sound"
 abbrev pub invalidGauge : ℕ
 invalidGauge = 15
+
+-- 18: document 02, C-11, "layouts differ"
+abbrev pub layoutMismatch : ℕ
+layoutMismatch = 18

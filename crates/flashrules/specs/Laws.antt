@@ -11,7 +11,7 @@ use Rattle.checksum.specs.Checksum.{checksum}
 use Rattle.flashrules.specs.Refusal.{firstError, NoneHolds, Numbered}
 use Rattle.flashrules.specs.Choice.{differing}
 use Rattle.flashrules.specs.Answer.{ifFound, errorOf, startOf, lengthOf}
-use Rattle.flashrules.specs.Layout.{classes, size, valid, fits, infoClass, keyClass, minKeyLength}
+use Rattle.flashrules.specs.Layout.{classes, size, valid, fits, sameLayout, infoClass, keyClass, minKeyLength}
 use Rattle.flashrules.specs.Lookup.{blockSize, findClass, findBlock, blockExists}
 use Rattle.flashrules.specs.Image.{blockBytes, storeBlock, asLoaded}
 use Rattle.flashrules.specs.declared.layout.Layout.{Layout}
@@ -144,6 +144,10 @@ KeyBlock = (l : Layout) → valid l ≡ true → minKeyLength ≤ lengthOf (find
 pub record SameClasses (l l′ : Layout) : Type 0 where
   pub count : l .count ≡ l′ .count
   pub classes : classes l ≡ classes l′
+
+-- the test for it
+abbrev pub SameTest : Type 0
+SameTest = (l l′ : Layout) → (sameLayout l l′ ≡ true) ↔ SameClasses l l′
 
 -- no rule tells them apart
 pub record SameLookups (l l′ : Layout) : Type 0 where

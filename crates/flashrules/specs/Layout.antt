@@ -105,3 +105,15 @@ valid l =
 -- refusal 10: "layout breaks its rules, or image length differs from it"
 unfoldable pub fits : Layout → ℕ → Bool
 fits l n = and (valid l ∷ eqb n (size l) ∷ [])
+
+-- ---- two layouts
+
+abbrev pub sameClasses : List Class → List Class → Bool
+sameClasses [] [] = true
+sameClasses [] (d ∷ ds) = false
+sameClasses (c ∷ cs) [] = false
+sameClasses (c ∷ cs) (d ∷ ds) = and (eqb (c .id) (d .id) ∷ eqb (c .len) (d .len) ∷ sameClasses cs ds ∷ [])
+
+-- 02, C-11: "layouts differ" where they have another count, identifier or length
+unfoldable pub sameLayout : Layout → Layout → Bool
+sameLayout l l′ = and (eqb (l .count) (l′ .count) ∷ sameClasses (classes l) (classes l′) ∷ [])

@@ -1,4 +1,5 @@
-// Document 01's error numbers ("Numbers of the refusals"), in the order of its table; 0 is none.
+// Document 01's error numbers ("Numbers of the refusals"), in the order of its table, and behind it
+// those of document 02; 0 is none.
 
 // No count, or a span past the last register.
 pub const INVALID_SPAN: u8 = 1;
@@ -36,3 +37,6 @@ pub const OUT_OF_RANGE: u8 = 13;
 pub const SHORT_BUFFER: u8 = 14;
 
 pub const INVALID_GAUGE: u8 = 15;
+
+// Two images whose layouts have other classes or lengths.
+pub const LAYOUT_MISMATCH: u8 = 18;

@@ -1,14 +1,14 @@
 -- Laws of digits, and of the loops that write and read them.
 use Prim.Native.Nat.{ℕ, zero, suc, _+_, _-_, _*_, _/_, _%_, _≤_, _<_}
-use mathlib.Core.Path.{_≡_, refl, ap, _∙_}
-use mathlib.Core.List.{List, [], _∷_, _++_}
+use mathlib.Core.Path.{_≡_, refl, sym, ap, _∙_}
+use mathlib.Core.List.{List, [], _∷_, _++_, head-eq-of-cons-eq, tail-eq-of-cons-eq}
 use native.Mathlib.Omega.{arith}
 use native.Mathlib.Decide.{decLt}
 use lib.ListN.{length, drop, set, getD, length-append, length-drop, drop-of-length-le}
 use lib.Seq.{sets, drop-cons}
 use borrow.Author.Tests.{lt-ltb, le-ltb}
 use Rattle.hextext.specs.Hex.{digit, value, pair, hex, unhex, lineFeed, hexLine}
-use Rattle.hextext.specs.Laws.{HexBack, HexLength, UnhexBytes, LineLength}
+use Rattle.hextext.specs.Laws.{HexBack, HexLength, UnhexBytes, LineLength, LineUnique}
 use Rattle.hextext.proofs.StoreLaws.{sets-out, sets-on}
 
 -- ---- one digit
@@ -115,6 +115,18 @@ module _ (bs r r′ : List ℕ) (at : ℕ) (p : r′ ≡ sets r at (hex bs)) whe
 
   pub line-cut : (length r′ - at) / 2 < length bs → r′ ≡ sets r at (hexLine bs)
   line-cut h = full (omega arith)
+
+-- a digit is no line feed, so the first line feed ends the line
+pub line-unique : LineUnique
+line-unique [] [] rest rest′ h g e = (refl, tail-eq-of-cons-eq e)
+line-unique [] (c ∷ cs) rest rest′ h g e = absurd (omega (arith, head-eq-of-cons-eq e, digit-above (c / 16)))
+line-unique (b ∷ bs) [] rest rest′ h g e = absurd (omega (arith, head-eq-of-cons-eq e, digit-above (b / 16)))
+line-unique (b ∷ bs) (c ∷ cs) rest rest′ h g e =
+    let high = head-eq-of-cons-eq e in
+    let low = head-eq-of-cons-eq (tail-eq-of-cons-eq e) in
+    let byte : b ≡ c = sym (pair-back b (h 0)) ∙ rw (high, low) (pair-back c (g 0)) in
+    let more = line-unique bs cs rest rest′ (λ k. h (suc k)) (λ k. g (suc k)) (tail-eq-of-cons-eq (tail-eq-of-cons-eq e)) in
+    (λ j. byte j ∷ more .0 j, more .1)
 
 -- ---- the loop that reads
 

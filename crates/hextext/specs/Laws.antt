@@ -2,7 +2,7 @@
 -- small letters.
 use Prim.Native.Nat.{ℕ, _+_, _*_, _≤_}
 use mathlib.Core.Path.{_≡_}
-use mathlib.Core.List.{List}
+use mathlib.Core.List.{List, _++_}
 use lib.ListN.{length, getD}
 use Rattle.hextext.specs.Hex.{hex, unhex, hexLine}
 
@@ -19,3 +19,9 @@ UnhexBytes = (x : List ℕ) (k : ℕ) → getD (unhex x) k 0 ≤ 255
 
 abbrev pub LineLength : Type 0
 LineLength = (bs : List ℕ) → length (hexLine bs) ≡ 2 * length bs + 1
+
+-- the first line of a text determines its bytes, and what comes behind it
+abbrev pub LineUnique : Type 0
+LineUnique =
+    (bs bs′ rest rest′ : List ℕ) → ((k : ℕ) → getD bs k 0 ≤ 255) → ((k : ℕ) → getD bs′ k 0 ≤ 255)
+    → hexLine bs ++ rest ≡ hexLine bs′ ++ rest′ → (bs ≡ bs′) × (rest ≡ rest′)

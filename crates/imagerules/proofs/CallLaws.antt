@@ -12,10 +12,10 @@ use borrow.Author.Tests.{ltb-true, ltb-false, le-ltb}
 use Rattle.hextext.proofs.StoreLaws.{sets-start}
 use Rattle.flashrules.specs.Error.{malformed, shortBuffer}
 use Rattle.flashrules.specs.Outcome.{Outcome, outcome}
-use Rattle.flashrules.specs.Layout.{fits}
+use Rattle.flashrules.specs.Layout.{maxImageLength, fits}
 use Rattle.flashrules.specs.declared.layout.Layout.{Layout}
 use Rattle.flashrules.proofs.Laws.{same-layout}
-use Rattle.flashrules.proofs.LayoutLaws.{fits-parts}
+use Rattle.flashrules.proofs.LayoutLaws.{valid-parts, fits-parts}
 use Rattle.flashrules.proofs.Picks.{on-test, on-cond}
 use Rattle.imagerules.specs.Text.{serializeImage, maxText}
 use Rattle.imagerules.specs.File.{ParsedImage, imageFile, noImageFile, parseImage, notRead, readParsed, read, notWritten, write}
@@ -27,7 +27,7 @@ use Rattle.imagerules.proofs.RoundTrip.{written-read, accepted-text}
 
 -- the parts of an outcome
 module _ {A : Type 0} (a a′ : A) (r r′ : List ℕ) (p : outcome a r ≡ outcome a′ r′) where
-  same-answer : a ≡ a′
+  pub same-answer : a ≡ a′
   unfolding outcome
   same-answer = ap (λ (o : Outcome A (List ℕ)). o .answer) p
 
@@ -116,6 +116,22 @@ read-within x buffer buffer′ r p = rw (← ap (λ (o : Outcome FileRead (List 
     by (imageFile l image) =
         on-cond (λ (o : Outcome FileRead (List ℕ)). o .answer .length ≤ length buffer) (ltb (length buffer) (length image)) _ _ (λ t. omega arith) (λ t. ltb-false _ _ t)
     by noImageFile = omega arith
+
+-- with room for the largest image only a text is refused that is none of an image
+pub read-malformed : (x buffer buffer′ : List ℕ) (r : FileRead) → outcome r buffer′ ≡ read x buffer → maxImageLength ≤ length buffer
+    → (r .error ≡ 0 → ⊥) → r .error ≡ malformed
+unfolding read
+read-malformed x buffer buffer′ r p h d = by (parseImage x) refl p
+  where
+    is : (v : FileRead) (c : List ℕ) → outcome r buffer′ ≡ outcome v c → r .error ≡ v .error
+    is v c q = ap (λ (a : FileRead). a .error) (same-answer r v buffer′ c q)
+
+    by : (j : ParsedImage) → parseImage x ≡ j → outcome r buffer′ ≡ readParsed j buffer → r .error ≡ malformed
+    by noImageFile q s = is (notRead malformed) buffer s
+    by (imageFile l image) q s =
+        let f = fits-parts l (length image) (accepted-text x l image .0 q .fitting .fit) in
+        let room : length image ≤ length buffer = omega (arith, f .1, valid-parts l (f .0) .small) in
+        absurd (d (is (record { error = 0; layout = l; length = length image }) (sets buffer 0 image) (rw (le-ltb (length buffer) (length image) room) at s)))
 
 -- ---- one behind the other
 

@@ -50,14 +50,16 @@ readParsed noImageFile buffer = outcome (notRead malformed) buffer
 unfoldable pub read : List ℕ → List ℕ → Outcome FileRead (List ℕ)
 read x buffer = readParsed (parseImage x) buffer
 
--- writing a layout and an image into a buffer
+-- writing a text into a buffer: 14 exactly where that is shorter than the whole text
 abbrev pub notWritten : ℕ → FileWritten
 notWritten e = record { error = e; length = 0 }
 
+abbrev pub writeText : List ℕ → List ℕ → Outcome FileWritten (List ℕ)
+writeText x buffer =
+    cond (ltb (length buffer) (length x)) (outcome (notWritten shortBuffer) buffer)
+    (outcome (record { error = 0; length = length x }) (sets buffer 0 x))
+
+-- writing a layout and an image
 unfoldable pub write : Layout → List ℕ → List ℕ → Outcome FileWritten (List ℕ)
 write l image buffer =
-    let x = serializeImage l image in
-    cond (fits l (length image))
-    (cond (ltb (length buffer) (length x)) (outcome (notWritten shortBuffer) buffer)
-    (outcome (record { error = 0; length = length x }) (sets buffer 0 x)))
-    (outcome (notWritten malformed) buffer)
+    cond (fits l (length image)) (writeText (serializeImage l image) buffer) (outcome (notWritten malformed) buffer)

@@ -2,4 +2,5 @@
 // every argument; a contract is an equation with a definition of crate `flashrules`.
 pub mod entry;
 pub mod lookup;
+pub mod same;
 pub mod valid;

@@ -1,20 +1,13 @@
--- What is known of the two files before anything is run. No contract can say which characters a
--- file has; but what runs a script asks for an image that goes with its layout, and for a parser's
--- state that ended well after so many characters: a state that forgot some of them is none of so
--- many.
+-- What is known of the script before it is run; of the image it is `Loaded` of crate `hostio`. No
+-- contract can say which characters a file has; but what runs a script asks for a parser's state
+-- that ended well after so many characters: a state that forgot some of them is none of so many.
 use Prim.Native.Nat.{ℕ, _+_, _%_, _^_}
 use mathlib.Core.Path.{_≡_}
 use mathlib.Core.Bool.{Bool, true}
 use mathlib.Core.List.{List}
 use lib.ListN.{length}
-use Rattle.flashrules.specs.Layout.{fits}
-use Rattle.flashrules.specs.declared.layout.Layout.{Layout}
 use Rattle.scriptrules.specs.Parser.{start, feed, endError}
 use Rattle.scriptrules.specs.declared.parser.Parser.{Parser}
-
--- an image file that was read, without error, as a layout and so many bytes
-pub record ImageChecked (error : ℕ) (l : Layout) (size : ℕ) : Type 0 where
-  pub fits : error ≡ 0 → fits l size ≡ true
 
 -- some text leads from one state of the parser to another, and from one number of characters,
 -- modulo 2^64, to another

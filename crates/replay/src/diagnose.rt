@@ -1,8 +1,8 @@
 // Which line of a script breaks its rules, for the message: the script is read once more, character
 // by character.
-use crate::input::read_some;
-use crate::output::report;
 use hextext::LINE_FEED;
+use hostio::input::read_some;
+use hostio::output::report;
 use libc::STDERR_FILENO;
 use scriptparser::feed;
 use scriptparser::start;

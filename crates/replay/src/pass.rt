@@ -1,13 +1,13 @@
 // The second pass over the script: its frames are run, and their replies printed. specs/Held.antt
 // says in which sense its turns are events of a host.
-use crate::input::Got;
-use crate::input::read_some;
-use crate::output::print;
-use crate::output::report;
 use flashrules::layout::Layout;
 use gaugerules::state::BOOT_SEALED;
 use gaugerules::state::Gauge;
 use gaugestate::state::power_on;
+use hostio::input::Got;
+use hostio::input::read_some;
+use hostio::output::print;
+use hostio::output::report;
 use scriptrules::answer::Progress;
 use scriptrules::parser::Parser;
 use scriptrunner::run::run;

@@ -1,6 +1,6 @@
 // script.hex, parsed.
 use crate::diagnose::diagnose_line;
-use crate::input::read_some;
+use hostio::input::read_some;
 use scriptparser::end;
 use scriptparser::feed;
 use scriptparser::start;

@@ -1,5 +1,4 @@
 // Reply lines in a lent buffer.
-use flashrules::error::MALFORMED;
 use flashrules::layout::Layout;
 use gauge::read::read;
 use gauge::write::write;
@@ -20,7 +19,6 @@ ghost use Rattle.gaugerules.specs.Read.{read};
 ghost use Rattle.gaugerules.specs.Script.{device};
 ghost use Rattle.scriptrules.specs.Frame.{writeFrame, readFrame};
 ghost use Rattle.scriptrules.specs.Reply.{maxReply};
-ghost use Rattle.scriptrules.specs.Replay.{refusal};
 ghost use Rattle.scriptrules.specs.Run.{lend, runFrame};
 
 // The longest reply: 00, 128 bytes and a line feed.
@@ -35,13 +33,6 @@ fn put_line(first: u8, rest: &[u8], buffer: &mut [u8], at: usize)
     }
     encode_byte(first, buffer, at);
     encode_line(rest, buffer, at + 2);
-}
-
-// The single line for a file that breaks its rules, at the front of the buffer.
-pub fn put_refusal(buffer: &mut [u8])
-    ensures { λ _. ⌜ now (buffer .exit) ≡ sets (now (buffer .entry)) 0 refusal ⌝ }
-{
-    encode_line(&[MALFORMED], buffer, 0);
 }
 
 fn low_byte(n: usize) -> u8

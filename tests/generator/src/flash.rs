@@ -136,6 +136,30 @@ pub fn longest_text(random: &mut Random) -> Flash {
     filled(random, &lengths)
 }
 
+/// As many classes of one byte as there can be.
+pub fn shortest_classes(random: &mut Random) -> Flash {
+    let length = |id: u8| match id {
+        INFO_CLASS => INFO_LENGTH,
+        KEY_CLASS => KEY_CLASS_MIN_LENGTH,
+        _ => 1,
+    };
+    let lengths: Vec<_> = ids(random, MAX_CLASSES).into_iter().map(|id| (id, length(id))).collect();
+    filled(random, &lengths)
+}
+
+/// A few classes, one to three of them of 512 bytes.
+pub fn longest_classes(random: &mut Random) -> Flash {
+    let mut lengths = lengths(random, 5);
+    lengths.retain(|&(id, _)| id != INFO_CLASS);
+    for _ in 0..3 {
+        let place = random.below(lengths.len());
+        lengths[place].1 = MAX_CLASS_LENGTH;
+    }
+    lengths.push((INFO_CLASS, INFO_LENGTH));
+    lengths.sort();
+    filled(random, &lengths)
+}
+
 /// A text of exactly 4,096 or 8,192 characters.
 pub fn round_text(random: &mut Random) -> Flash {
     let target = random.pick(&[4_096, 8_192]);

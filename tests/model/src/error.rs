@@ -1,5 +1,5 @@
 //! 01, "Numbers of the refusals": those that a lookup, a file, a transaction or the parameter desk
-//! can give.
+//! can give; and those of the change requests.
 
 #[derive(Clone, Copy, Debug, PartialEq, Eq)]
 #[repr(u8)]
@@ -34,6 +34,8 @@ pub enum Error {
     Buffer = 14,
     /// "record not sound"
     Record = 15,
+    /// C-11: "18 where layouts differ"
+    Layouts = 18,
 }
 
 impl Error {

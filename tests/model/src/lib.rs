@@ -1,7 +1,9 @@
 //! An independent model of document 01, "Build description and exact rules": layout, image file,
-//! gauge, parameters and replay program. It is written from that paper alone and puts simplicity
-//! first: each call judges everything anew. Comments quote the sentence that a rule follows.
+//! gauge, parameters and replay program; and of change request C-11, the list of what differs
+//! between two images. It is written from these papers alone and puts simplicity first: each call
+//! judges everything anew. Comments quote the sentence that a rule follows.
 
+pub mod delta;
 pub mod error;
 pub mod gauge;
 pub mod imagefile;

@@ -1,14 +1,25 @@
-//! The model as a program: reads image.hex and script.hex in the current folder and prints the
-//! replies.
+//! The model as a program. Its argument is a tool's name, as ./bench has it, and its files are
+//! those of the current folder:
+//!
+//!     model replay    image.hex, script.hex
+//!     model diff      old.hex, new.hex
 
-use std::fs;
 use std::io::{self, BufWriter, Write};
+use std::{env, fs};
 
 fn main() -> io::Result<()> {
-    let image = read("image.hex");
-    let script = read("script.hex");
     let mut output = BufWriter::with_capacity(1 << 16, io::stdout().lock());
-    model::replay::run(image.as_deref(), script.as_deref(), &mut output)?;
+    match env::args().nth(1).as_deref() {
+        Some("replay") => {
+            let (image, script) = (read("image.hex"), read("script.hex"));
+            model::replay::run(image.as_deref(), script.as_deref(), &mut output)?;
+        }
+        Some("diff") => {
+            let (old, new) = (read("old.hex"), read("new.hex"));
+            output.write_all(&model::delta::diff(old.as_deref(), new.as_deref()))?;
+        }
+        _ => return Err(io::Error::other("usage: model replay, or model diff")),
+    }
     output.flush()
 }
 

@@ -1,39 +1,56 @@
-//! The table of all kinds of cases, and the case of each number.
+//! The table of all kinds of cases, and what a case asks for.
 
-use crate::{badscripts, scripts};
+use crate::{badscripts, events, scripts};
 use generator::damage::{self, Damage};
 use generator::flash::{self, Flash};
 use generator::imagetexts::{Expect, ImageText, Make, IMAGE_TEXTS};
 use generator::random::Random;
+use harness::case::{self, Input, DISAGREE};
+use model::replay::replay;
+use model::script;
 use std::sync::LazyLock;
-
-/// What stands in the place of a file.
-pub enum Input {
-    Text(Vec<u8>),
-    Missing,
-    Folder,
-}
-
-impl Input {
-    pub fn text(&self) -> Option<&[u8]> {
-        match self {
-            Input::Text(text) => Some(text),
-            _ => None,
-        }
-    }
-}
 
 pub struct Case {
     pub image: Input,
     pub script: Input,
 }
 
+impl Case {
+    /// Why there is no script, if so.
+    fn no_script(&self) -> Option<String> {
+        let bad_line = self.script.text().and_then(script::first_bad_line);
+        match bad_line {
+            Some(line) => Some(format!("no script: line {line} is no frame")),
+            None => self.script.unread().map(str::to_string),
+        }
+    }
+}
+
+impl case::Case for Case {
+    fn files(&self) -> Vec<(&'static str, &Input)> {
+        vec![("image.hex", &self.image), ("script.hex", &self.script)]
+    }
+
+    fn expected(&self) -> Vec<u8> {
+        replay(self.image.text(), self.script.text())
+    }
+
+    fn reasons(&self) -> Vec<String> {
+        let image = self.image.no_image().map(|why| format!("image.hex: {why}"));
+        let script = self.no_script().map(|why| format!("script.hex: {why}"));
+        image.into_iter().chain(script).collect()
+    }
+
+    fn count(&self, times: &mut [usize]) -> usize {
+        events::count(self, times)
+    }
+}
+
 #[derive(Clone, Copy)]
 pub struct Kind {
-    pub name: &'static str,
-    /// So many of every `total_weight()` cases are of this kind.
-    pub weight: usize,
-    pub expect: Expect,
+    name: &'static str,
+    weight: usize,
+    expect: Expect,
     inputs: Inputs,
 }
 
@@ -145,38 +162,38 @@ fn with_image(image: &ImageText) -> Option<Kind> {
     Some(Kind { name: image.name, weight: image.weight, expect: image.expect, inputs })
 }
 
-pub fn total_weight() -> usize {
-    KINDS.iter().map(|kind| kind.weight).sum()
-}
+impl case::Kind for Kind {
+    type Case = Case;
 
-/// The place in the table of the kind of case `number`: every `total_weight()` cases go once
-/// through the table.
-pub fn kind_of(number: usize) -> usize {
-    place_in_table(number % total_weight()).0
-}
-
-/// The case of this number. It depends on the seed and the number alone.
-pub fn case(seed: u64, number: usize) -> Case {
-    let (place, turn) = place_in_table(number % total_weight());
-    let kind = &KINDS[place];
-    let ordinal = number / total_weight() * kind.weight + turn;
-    let mut random = Random::new(seed, number as u64);
-    match kind.inputs {
-        Inputs::Both(make) => make(&mut random, ordinal),
-        Inputs::SpoiltImage(damage) => spoilt_image(&mut random, damage),
-        Inputs::BadImage(make) => bad_image(&mut random, make),
+    fn name(&self) -> &'static str {
+        self.name
     }
-}
 
-/// A kind's place in the table, and which of its cases in this turn.
-fn place_in_table(mut rest: usize) -> (usize, usize) {
-    for (place, kind) in KINDS.iter().enumerate() {
-        if rest < kind.weight {
-            return (place, rest);
+    fn weight(&self) -> usize {
+        self.weight
+    }
+
+    /// Lines are to be cut at every offset.
+    fn least(&self) -> usize {
+        if self.name == scripts::STRADDLING {
+            scripts::straddling_cases()
+        } else {
+            1
         }
-        rest -= kind.weight;
     }
-    unreachable!("the rest is below the sum of the weights")
+
+    fn case(&self, random: &mut Random, ordinal: usize) -> Case {
+        match self.inputs {
+            Inputs::Both(make) => make(random, ordinal),
+            Inputs::SpoiltImage(damage) => spoilt_image(random, damage),
+            Inputs::BadImage(make) => bad_image(random, make),
+        }
+    }
+
+    fn check(&self, _: &Case, expected: &[u8]) -> Result<(), &'static str> {
+        let is_as_meant = self.expect.allows(expected != b"0A\n");
+        is_as_meant.then_some(()).ok_or(DISAGREE)
+    }
 }
 
 /// A script made for a generated flash.

@@ -1,26 +1,34 @@
 -- `replay::main` meets its contract. A script is run only where both files were found good.
 use borrow.Author.Needs.{needs}
-use Rattle.replay.proofs.CheckedLaws.{front-fits, checked-fed, checked-ended}
+use Rattle.hostio.proofs.LoadedLaws.{loaded-within, front-fits}
+use Rattle.replay.proofs.CheckedLaws.{checked-fed, checked-ended}
 use Rattle.replay.proofs.main.Statement.{statement}
 use Rattle.replay.proofs.main.Tie as tie
 
 -- what the load of the image ensures lies too far back for a search to find it
+
+part-bytes-end : tie.Need-part-bytes-end
+part-bytes-end c =
+    let within = loaded-within _ _ _ (c .before .before .before .before .before .before .before .before .load .ensures) in
+    search (needs, within)
+
 replay-requires : tie.Need-replay-requires
 replay-requires c κs =
-    let found = c .before .before .before .before .before .before .before .before .before .load .ensures .1 in
-    (front-fits _ _ _ _ found (search needs) (search needs), (search checked-fed, search checked-ended))
+    let found = c .before .before .before .before .before .before .before .before .before .load .ensures in
+    (front-fits _ _ _ found _ (search needs) (search needs), (search checked-fed, search checked-ended))
 
 pub main-spec : {M : Type 1} → statement M
 main-spec =
     tie.close
     (tie.spec
     (λ c. search needs)
+    (λ c. search needs)
     (λ c κs. search needs)
     (λ c κs. search needs)
     (λ c κs. search needs)
     (λ c. search needs)
     (λ c. search needs)
-    (λ c. search needs)
+    part-bytes-end
     replay-requires
     (λ c. search needs)
     (λ c κs. search needs)

@@ -1,0 +1,3 @@
+pub mod SpanLaws
+pub mod TextLaws
+pub mod CompareLaws

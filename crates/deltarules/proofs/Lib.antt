@@ -1,0 +1,10 @@
+pub mod TextLaws
+pub mod EachLaws
+pub mod ClassLaws
+pub mod ImageLaws
+pub mod DeltaLaws
+pub mod PatchLaws
+pub mod CountLaws
+pub mod WritableLaws
+pub mod CompareLaws
+pub mod Laws

@@ -1,0 +1,5 @@
+pub mod Run
+pub mod Delta
+pub mod Text
+pub mod Compare
+pub mod Laws

@@ -136,20 +136,19 @@ fits-used l n t p q = valid-parts l (fits-parts l n (sym p ∙ q) .0) .used
 
 -- ---- two layouts
 
-same-refl : (cs : List Class) → sameClasses cs cs ≡ true
-same-refl [] = refl
-same-refl (c ∷ cs) = rw (eq-eqb (c .id) (c .id) refl, eq-eqb (c .len) (c .len) refl, same-refl cs)
-
 same-eq : (cs ds : List Class) → sameClasses cs ds ≡ true → cs ≡ ds
 same-eq [] [] e = refl
 same-eq [] (d ∷ ds) e = absurd (true≢false (sym e))
 same-eq (c ∷ cs) [] e = absurd (true≢false (sym e))
 same-eq (c ∷ cs) (d ∷ ds) e =
-    let p = eqb-true (c .id) (d .id) (and-first _ _ e) in
-    let f = and-rest (eqb (c .id) (d .id)) _ e in
-    let q = eqb-true (c .len) (d .len) (and-first _ _ f) in
-    let g = and-first _ _ (and-rest (eqb (c .len) (d .len)) _ f) in
+    let p : c .id ≡ d .id = search (and-first, eqb-true) in
+    let q : c .len ≡ d .len = search (and-first, and-rest, eqb-true) in
+    let g : sameClasses cs ds ≡ true = search (and-first, and-rest) in
     λ j. entry (p j) (q j) ∷ same-eq cs ds g j
+
+same-refl : (cs : List Class) → sameClasses cs cs ≡ true
+same-refl [] = refl
+same-refl (c ∷ cs) = rw (eq-eqb (c .id) (c .id) refl, eq-eqb (c .len) (c .len) refl, same-refl cs)
 
 pub same-test : SameTest
 unfolding sameLayout

@@ -12,8 +12,10 @@ use hostio::image_file::load;
 use hostio::output::print;
 use hostio::output::refuse;
 use hostio::output::report;
+use imagerules::answer::FileWritten;
 ghost use mathlib.Core.Path.{_≡_};
 ghost use mathlib.Core.Bool.{true};
+ghost use Prim.Native.Nat.{_≤_};
 ghost use lib.ListN.{length};
 ghost use Rattle.flashrules.specs.Error.{malformed, layoutMismatch};
 ghost use Rattle.flashrules.specs.Layout.{fits};
@@ -33,6 +35,14 @@ fn refuse_layouts(error: u8)
     refuse(error);
 }
 
+// The list, at the front of a text, where there is no refusal: nothing printed means equal images.
+fn print_list(written: FileWritten, text: &[u8])
+    requires { ⌜ (written .error ≡ 0) × (written .length ≤ length (now text)) ⌝ }
+{
+    let n = written.length;
+    print(&text[0..n]);
+}
+
 // The list, or the refusal. The buffer has room for the longest list that there is.
 fn show(layout: Layout, old: &[u8], other: Layout, new: &[u8])
     requires { ⌜ (fits layout (length (now old)) ≡ true) × (fits other (length (now new)) ≡ true) ⌝ }
@@ -43,8 +53,7 @@ fn show(layout: Layout, old: &[u8], other: Layout, new: &[u8])
         refuse_layouts(written.error);
         return;
     }
-    let n = written.length;
-    print(&text[0..n]);
+    print_list(written, &text);
 }
 
 fn main() {

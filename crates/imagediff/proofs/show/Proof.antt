@@ -6,10 +6,10 @@ use Rattle.imagediff.proofs.show.Statement.{statement}
 use Rattle.imagediff.proofs.show.Tie as tie
 
 -- what the comparison ensures lies too far back for a search to find it
-part-print-end : tie.Need-part-print-end
-part-print-end c =
+print-list-requires : tie.Need-print-list-requires
+print-list-requires c κs =
     let within = compare-within _ _ _ _ _ _ _ (c .before .before .before .before .compare .ensures) in
-    search (needs, within)
+    (search needs, search (needs, within))
 
 pub show-spec : {M : Type 1} → statement M
 show-spec =
@@ -20,7 +20,5 @@ show-spec =
     (λ c κs. search (needs, compare-mismatch))
     (λ c. search needs)
     (λ c. search needs)
-    (λ c. search needs)
-    part-print-end
-    (λ c κs. search needs)
+    print-list-requires
     (λ c. search needs))

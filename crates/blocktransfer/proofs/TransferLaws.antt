@@ -14,16 +14,19 @@ use borrow.Author.Tests.{eq-eqb, ne-eqb, leb-true}
 use Rattle.checksum.specs.Checksum.{checksum}
 use Rattle.flashrules.specs.Error.{wrongChecksum}
 use Rattle.flashrules.specs.Outcome.{outcome}
+use Rattle.flashrules.specs.Choice.{differing}
 use Rattle.flashrules.specs.Answer.{errorOf, lengthOf}
 use Rattle.flashrules.specs.Lookup.{blockSize, findBlock}
 use Rattle.flashrules.specs.Image.{blockBytes, storeBlock, asLoaded}
 use Rattle.flashrules.specs.declared.layout.Layout.{Layout}
 use Rattle.flashrules.specs.declared.lookup.Lookup.{Lookup}
 use Rattle.flashrules.proofs.Laws.{block-inside, block-length}
+use Rattle.flashrules.proofs.ImageLaws.{block-most}
+use Rattle.flashrules.proofs.DifferingLaws.{differing-self}
 use Rattle.flashrules.proofs.RefusalLaws.{error-first, error-behind}
 use Rattle.flashrules.proofs.Picks.{and-first, on-answer}
 use Rattle.gaugerules.specs.State.{infoBlocks, zeroWindow, loadedOf, withWindow, load}
-use Rattle.gaugerules.specs.Transfer.{accept, refuse, loadBlock, selectsInfo, editTests, editError, commitError, committed}
+use Rattle.gaugerules.specs.Transfer.{byteWritten, accept, refuse, loadBlock, selectsInfo, editTests, editError, commitError, committed}
 use Rattle.gaugerules.specs.Write.{commit}
 use Rattle.gaugerules.specs.declared.state.Gauge.{Gauge}
 use Rattle.gaugerules.specs.declared.state.Loaded.{Loaded}
@@ -56,9 +59,7 @@ module _ (l : Layout) (image part : List ℕ) (i b : ℕ) (p : part ≡ blockByt
   length-is a q = rw p (block-length l image i b ∙ rw q)
 
   pub part-most : length part ≤ blockSize
-  part-most =
-      on-answer (findBlock l (length image) i b)
-      (λ t k q. omega (arith, length-is _ q, block-inside l (length image) i b t k q .most)) (λ e q. omega (arith, length-is _ q))
+  part-most = rw p (block-most l image i b)
 
   module _ (g : Gauge) (byte : ℕ) (s : ByteWritten) where
     -- what has bytes was found
@@ -97,15 +98,16 @@ module _ (l : Layout) (image : List ℕ) (g : Gauge) (byte e : ℕ) (p : e ≡ e
   sum-behind h n q = error-behind (editTests g) ((not (eqb byte (checksum (g .window))), wrongChecksum) ∷ []) (omega arith, (omega arith, tt)) e p h n q
 
 module _ (l : Layout) (image to : List ℕ) (g : Gauge) (byte e : ℕ) (s : ByteWritten) (p : e ≡ commitError l image g byte) where
-  pub commits : e ≤ 0 → (a : Loaded) (i b : ℕ) → a ≡ loadedOf (g .loaded) → a ≡ Loaded.Block i b → to ≡ storeBlock l image i b (g .window) → s ≡ accept g
+  pub commits : e ≤ 0 → (a : Loaded) (i b n : ℕ) → a ≡ loadedOf (g .loaded) → a ≡ Loaded.Block i b
+      → n ≡ differing image (storeBlock l image i b (g .window)) → to ≡ storeBlock l image i b (g .window) → s ≡ byteWritten 0 n g
       → outcome s to ≡ commit l image g byte
   unfolding commit committed
-  commits q a i b x y z t = rw (t, z, ← p, eq-eqb e 0 (omega arith), ← x, y)
+  commits q a i b n x y m z t = rw (t, m, z, ← p, eq-eqb e 0 (omega arith), ← x, y)
 
   -- nothing is loaded, so nothing is stored
   pub commits-none : e ≤ 0 → (a : Loaded) → a ≡ loadedOf (g .loaded) → a ≡ Loaded.None → s ≡ accept g → outcome s image ≡ commit l image g byte
   unfolding commit committed
-  commits-none q a x y t = rw (t, ← p, eq-eqb e 0 (omega arith), ← x, y)
+  commits-none q a x y t = rw (t, ← p, eq-eqb e 0 (omega arith), ← x, y, differing-self image)
 
   pub commits-not : 0 < e → s ≡ refuse e g → outcome s image ≡ commit l image g byte
   unfolding commit

@@ -2,6 +2,7 @@
 // the gauge back as it was.
 use checksum::checksum;
 use dataflash::store_block;
+use dataflash::store_changes;
 use flashrules::error::INVALID_CONTROL;
 use flashrules::error::NOTHING_LOADED;
 use flashrules::error::PROTECTED_BLOCK;
@@ -38,13 +39,21 @@ ghost use Rattle.gaugerules.specs.Write.{commit};
 fn accept(gauge: Gauge) -> ByteWritten
     ensures { λ s. ⌜ s ≡ accept gauge ⌝ }
 {
-    ByteWritten { error: 0, gauge }
+    ByteWritten {
+        error: 0,
+        changed: 0,
+        gauge,
+    }
 }
 
 fn refuse(error: u8, gauge: Gauge) -> ByteWritten
     ensures { λ s. ⌜ s ≡ refuse error gauge ⌝ }
 {
-    ByteWritten { error, gauge }
+    ByteWritten {
+        error,
+        changed: 0,
+        gauge,
+    }
 }
 
 // 0x3E.
@@ -189,7 +198,7 @@ fn commit_error(layout: Layout, image: &[u8], gauge: Gauge, byte: u8) -> u8
     error
 }
 
-// 0x60.
+// 0x60: the answer counts the bytes of the image that the commit changed.
 pub fn commit(layout: Layout, image: &mut [u8], gauge: Gauge, byte: u8) -> ByteWritten
     ensures { λ s. ⌜ outcome s (now (image .exit)) ≡ commit layout (now (image .entry)) gauge byte ⌝ }
 {
@@ -201,8 +210,13 @@ pub fn commit(layout: Layout, image: &mut [u8], gauge: Gauge, byte: u8) -> ByteW
         return accept(gauge);
     };
     let window = gauge.window;
+    let changed = store_changes(layout, &image[..], class, block, window);
     store_block(layout, image, class, block, window);
-    accept(gauge)
+    ByteWritten {
+        error: 0,
+        changed,
+        gauge,
+    }
 }
 
 // 0x61.

@@ -1,6 +1,6 @@
-// The bench cases of document 01, run: for each the answers of the compiled code, and whether they
-// are those of the table. What is handed to the code is required to be a case of the table in crate
-// `casetable`, which is proved of the rules.
+// The bench cases of document 01 and those of change requests, run: for each the answers of the
+// compiled code, and whether they are those of the table. What is handed to the code is required to
+// be a case of the table in crate `casetable`, which is proved of the rules.
 mod bench;
 mod parameter;
 mod session;
@@ -46,7 +46,7 @@ fn sessions() {
         0,
         BOOT_OPEN,
         b"016100\n013E3001\n01400507\n006001\n0160FA\n0160F3\n",
-        b"0001\n0002\n0002\n00F3\n0800\n0001\n",
+        b"000100\n000200\n000200\n00F3\n080000\n000101\n",
         32,
         5,
     );
@@ -56,7 +56,7 @@ fn sessions() {
         0,
         BOOT_SEALED,
         b"01001404\n01001404\n01007236\n01000000\n000002\n",
-        b"0002\n0002\n0002\n0002\n000040\n",
+        b"000200\n000200\n000200\n000200\n000040\n",
         0,
         0,
     );
@@ -66,7 +66,7 @@ fn sessions() {
         0,
         BOOT_SEALED,
         b"01001404\n01000000\n01007236\n01000000\n000002\n",
-        b"0002\n0002\n0002\n0002\n000060\n",
+        b"000200\n000200\n000200\n000200\n000060\n",
         0,
         0,
     );
@@ -76,7 +76,7 @@ fn sessions() {
         0,
         BOOT_SEALED,
         b"013F01\n014009\n",
-        b"0001\n0700\n",
+        b"000100\n070000\n",
         0,
         0,
     );
@@ -86,7 +86,7 @@ fn sessions() {
         0x55,
         BOOT_OPEN,
         b"016100\n013E3000\n004020\n01002000\n004020\n",
-        b"0001\n0002\n005500000000000000000000000000000000000000000000000000000000000000\n0002\n000000000000000000000000000000000000000000000000000000000000000000\n",
+        b"000100\n000200\n005500000000000000000000000000000000000000000000000000000000000000\n000200\n000000000000000000000000000000000000000000000000000000000000000000\n",
         0,
         0x55,
     );
@@ -100,8 +100,23 @@ fn parameters() {
     get_parameter(15, b"P12", 0x80, 0, I8, -128, 127, -128);
 }
 
+// Cases of change requests.
+fn requests() {
+    session(
+        16,
+        b"C-12",
+        0,
+        BOOT_SEALED,
+        b"013F02\n014007\n0160F800\n0160F8\n",
+        b"000100\n000100\n030101\n000100\n",
+        65,
+        7,
+    );
+}
+
 fn main() {
     values();
     sessions();
     parameters();
+    requests();
 }

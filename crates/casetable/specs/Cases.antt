@@ -1,6 +1,7 @@
--- The bench cases of document 01 that are to be proved, as one table with one claim: `CasesHold`.
--- It stands above every crate whose rules have a case in it, and speaks of those rules alone.
--- Program `cases` runs the same cases: what it hands to the code is required to be in the table.
+-- The bench cases of document 01 that are to be proved, and those of change requests, as one table
+-- with one claim: `CasesHold`. It stands above every crate whose rules have a case in it, and
+-- speaks of those rules alone. Program `cases` runs the same cases: what it hands to the code is
+-- required to be in the table.
 use Prim.Native.Nat.{ℕ}
 use mathlib.Core.Path.{_≡_}
 use mathlib.Core.Bool.{Bool, true, false}
@@ -105,7 +106,7 @@ cases =
     ∷ lookup 48 1 0 1
     ∷ lookup 48 2 5 0
     -- P7: "in that block 1, 7 at 0x41 counts in the checksum and is not stored." 5 at 0x40 is, and
-    -- the checksum without 7 is refused
+    -- the checksum without 7 is refused. C-12: so the commit changes one byte
     ∷ session 0 1
     (linesText
     ((0x01 ∷ 0x61 ∷ 0 ∷ [])
@@ -115,7 +116,14 @@ cases =
     ∷ (0x01 ∷ 0x60 ∷ 250 ∷ [])
     ∷ (0x01 ∷ 0x60 ∷ 243 ∷ [])
     ∷ []))
-    (linesText ((0 ∷ 1 ∷ []) ∷ (0 ∷ 2 ∷ []) ∷ (0 ∷ 2 ∷ []) ∷ (0 ∷ 243 ∷ []) ∷ (8 ∷ 0 ∷ []) ∷ (0 ∷ 1 ∷ []) ∷ []))
+    (linesText
+    ((0 ∷ 1 ∷ 0 ∷ [])
+    ∷ (0 ∷ 2 ∷ 0 ∷ [])
+    ∷ (0 ∷ 2 ∷ 0 ∷ [])
+    ∷ (0 ∷ 243 ∷ [])
+    ∷ (8 ∷ 0 ∷ 0 ∷ [])
+    ∷ (0 ∷ 1 ∷ 1 ∷ [])
+    ∷ []))
     32 5
     -- P8: "key above, words 0414 0414 3672: open; 0414 0000 3672: sealed." The status tells
     ∷ session 0 0
@@ -126,7 +134,8 @@ cases =
     ∷ (0x01 ∷ 0x00 ∷ 0x00 ∷ 0x00 ∷ [])
     ∷ (0x00 ∷ 0x00 ∷ 2 ∷ [])
     ∷ []))
-    (linesText ((0 ∷ 2 ∷ []) ∷ (0 ∷ 2 ∷ []) ∷ (0 ∷ 2 ∷ []) ∷ (0 ∷ 2 ∷ []) ∷ (0 ∷ 0x00 ∷ 0x40 ∷ []) ∷ []))
+    (linesText
+    ((0 ∷ 2 ∷ 0 ∷ []) ∷ (0 ∷ 2 ∷ 0 ∷ []) ∷ (0 ∷ 2 ∷ 0 ∷ []) ∷ (0 ∷ 2 ∷ 0 ∷ []) ∷ (0 ∷ 0x00 ∷ 0x40 ∷ []) ∷ []))
     0 0
     ∷ session 0 0
     (linesText
@@ -136,12 +145,13 @@ cases =
     ∷ (0x01 ∷ 0x00 ∷ 0x00 ∷ 0x00 ∷ [])
     ∷ (0x00 ∷ 0x00 ∷ 2 ∷ [])
     ∷ []))
-    (linesText ((0 ∷ 2 ∷ []) ∷ (0 ∷ 2 ∷ []) ∷ (0 ∷ 2 ∷ []) ∷ (0 ∷ 2 ∷ []) ∷ (0 ∷ 0x00 ∷ 0x60 ∷ []) ∷ []))
+    (linesText
+    ((0 ∷ 2 ∷ 0 ∷ []) ∷ (0 ∷ 2 ∷ 0 ∷ []) ∷ (0 ∷ 2 ∷ 0 ∷ []) ∷ (0 ∷ 2 ∷ 0 ∷ []) ∷ (0 ∷ 0x00 ∷ 0x60 ∷ []) ∷ []))
     0 0
     -- P9: "sealed, block A, byte at 0x40: 7."
     ∷ session 0 0
     (linesText ((0x01 ∷ 0x3F ∷ 1 ∷ []) ∷ (0x01 ∷ 0x40 ∷ 9 ∷ []) ∷ []))
-    (linesText ((0 ∷ 1 ∷ []) ∷ (7 ∷ 0 ∷ []) ∷ []))
+    (linesText ((0 ∷ 1 ∷ 0 ∷ []) ∷ (7 ∷ 0 ∷ 0 ∷ []) ∷ []))
     0 0
     -- P10: "block of class 48 loaded, then 0x0020: window reads zero."
     ∷ session 0x55 1
@@ -152,7 +162,13 @@ cases =
     ∷ (0x01 ∷ 0x00 ∷ 0x20 ∷ 0x00 ∷ [])
     ∷ (0x00 ∷ 0x40 ∷ 32 ∷ [])
     ∷ []))
-    (linesText ((0 ∷ 1 ∷ []) ∷ (0 ∷ 2 ∷ []) ∷ (0 ∷ 0x55 ∷ replicate 31 0) ∷ (0 ∷ 2 ∷ []) ∷ (0 ∷ replicate 32 0) ∷ []))
+    (linesText
+    ((0 ∷ 1 ∷ 0 ∷ [])
+    ∷ (0 ∷ 2 ∷ 0 ∷ [])
+    ∷ (0 ∷ 0x55 ∷ replicate 31 0)
+    ∷ (0 ∷ 2 ∷ 0 ∷ [])
+    ∷ (0 ∷ replicate 32 0)
+    ∷ []))
     0 0x55
     -- P11: "two bytes at offset 31: 12; at 30: accepted." Class 48 has both; it is the block that
     -- ends
@@ -161,6 +177,17 @@ cases =
     -- P12: "signed byte -128 is 80."
     ∷ setParameter (benchParameter 0 0x81 (negℤ (pos 128)) (pos 127)) (negℤ (pos 128)) 0 0 (0x80 ∷ [])
     ∷ getParameter 0x80 (benchParameter 0 0x81 (negℤ (pos 128)) (pos 127)) (negℤ (pos 128))
+    -- C-12: sealed, 7 in block B, committed by a write that goes on to 0x61: 3, one byte accepted,
+    -- one byte changed; committed once more: none
+    ∷ session 0 0
+    (linesText
+    ((0x01 ∷ 0x3F ∷ 2 ∷ [])
+    ∷ (0x01 ∷ 0x40 ∷ 7 ∷ [])
+    ∷ (0x01 ∷ 0x60 ∷ 248 ∷ 0 ∷ [])
+    ∷ (0x01 ∷ 0x60 ∷ 248 ∷ [])
+    ∷ []))
+    (linesText ((0 ∷ 1 ∷ 0 ∷ []) ∷ (0 ∷ 1 ∷ 0 ∷ []) ∷ (3 ∷ 1 ∷ 1 ∷ []) ∷ (0 ∷ 1 ∷ 0 ∷ []) ∷ []))
+    65 7
     ∷ []
 
 abbrev pub CasesHold : Type 0

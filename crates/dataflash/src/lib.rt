@@ -1,6 +1,9 @@
-// The blocks of an image, by the lookup: handed out as parts of the lent slice itself, and stored
-// into. A store touches the block's own bytes and no other, however short the block; a refused call
-// touches none.
+// The blocks of an image, by the lookup: handed out as parts of the lent slice itself, compared
+// with a window, and stored into. A store touches the block's own bytes and no other, however short
+// the block; a refused call touches none.
+pub mod count;
+
+use crate::count::differing;
 use flashrules::layout::Layout;
 use flashrules::lookup::BLOCK_SIZE;
 use flashrules::lookup::Lookup;
@@ -11,6 +14,7 @@ ghost use Prim.Native.Nat.{_+_, _≤_};
 ghost use lib.ListN.{length};
 ghost use lib.Seq.{paste};
 ghost use denote.Ref.{ptr};
+ghost use Rattle.flashrules.specs.Choice.{differing};
 ghost use Rattle.flashrules.specs.Answer.{errorOf};
 ghost use Rattle.flashrules.specs.Lookup.{blockSize, findBlock};
 ghost use Rattle.flashrules.specs.Image.{blockBytes, blockPlace, storeBlock};
@@ -26,6 +30,21 @@ pub fn block<'a>(layout: Layout, image: &'a [u8], class: u8, block: u8) -> &'a [
     };
     let end = start + len;
     &image[start..end]
+}
+
+// How many bytes of the image a store of a window into a block changes.
+pub fn store_changes(
+    layout: Layout,
+    image: &[u8],
+    class: u8,
+    block: u8,
+    window: [u8; BLOCK_SIZE],
+) -> usize
+    ensures { λ r. ⌜ r ≡ differing (now (image .entry)) (storeBlock layout (now (image .entry)) class block window) ⌝ }
+{
+    let part = crate::block(layout, image, class, block);
+    let len = part.len();
+    differing(part, &window[0..len])
 }
 
 // The window's first `len` bytes over the image's from `start` on.

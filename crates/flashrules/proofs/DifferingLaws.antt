@@ -1,10 +1,12 @@
 -- Laws of the number of places in which two lists differ.
-use Prim.Native.Nat.{ℕ, _+_}
+use Prim.Native.Nat.{ℕ, _+_, _≤_}
 use mathlib.Core.Path.{_≡_, refl, sym, _∙_}
 use mathlib.Core.Bool.{true≢false}
-use mathlib.Core.List.{List, [], _∷_}
+use mathlib.Core.List.{List, [], _∷_, _++_}
 use native.Mathlib.Omega.{arith}
 use lib.Dec.{eqb}
+use lib.ListN.{length, take, drop, length-append}
+use lib.Seq.{paste, length-take-le}
 use borrow.Author.Tests.{eqb-true, eqb-false, eq-eqb, ne-eqb}
 use Rattle.flashrules.specs.Choice.{same, differing}
 use Rattle.flashrules.specs.Laws.{DifferingNone, DifferingSymmetric, DifferingMost, DifferingAppend}
@@ -54,3 +56,14 @@ differing-append [] [] xs′ ys′ e = omega arith
 differing-append [] (y ∷ ys) xs′ ys′ e = absurd (omega arith)
 differing-append (x ∷ xs) [] xs′ ys′ e = absurd (omega arith)
 differing-append (x ∷ xs) (y ∷ ys) xs′ ys′ e = let h = differing-append xs ys xs′ ys′ (omega arith) in omega arith
+
+-- two lists pasted at one place
+pub differing-paste : (d x w : List ℕ) (at n : ℕ) → n ≤ length x → n ≤ length w → differing (paste d at x n) (paste d at w n) ≡ differing (take n x) (take n w)
+differing-paste d x w at n hx hw =
+    let a = take at d in
+    let z = drop (at + n) d in
+    let e : length (take n x) ≡ length (take n w) = length-take-le n x hx ∙ sym (length-take-le n w hw) in
+    let front : length (a ++ take n x) ≡ length (a ++ take n w) = simp length-append (rw e) in
+    let whole = differing-append (a ++ take n x) (a ++ take n w) z z front in
+    let fronts = differing-append a a (take n x) (take n w) refl in
+    omega (arith, whole, fronts, differing-self a, differing-self z)

@@ -8,16 +8,18 @@ use native.Mathlib.Numerals.{add-one}
 use native.Mathlib.Omega.{arith}
 use lib.Dec.{ltb}
 use lib.ListN.{length, take, drop, getD, set, replicate, length-append, length-replicate}
-use lib.Seq.{paste, paste-suc, sets, length-paste}
+use lib.Seq.{paste, paste-suc, sets, length-paste, length-take-le, take-at}
 use borrow.Author.Tests.{ltb-true, ltb-false}
 use Rattle.checksum.proofs.ChecksumLaws.{total-append, total-zeros}
+use Rattle.flashrules.specs.Choice.{differing}
 use Rattle.flashrules.specs.Answer.{lengthOf}
 use Rattle.flashrules.specs.Lookup.{blockSize, findBlock}
 use Rattle.flashrules.specs.Image.{blockBytes, asLoaded, storeBlock}
-use Rattle.flashrules.specs.Laws.{ChecksumLoaded, BlockLength, BlockEmpty, LoadedLength, StoreLength, StoreHere, Within, StoreOutside, StoreElsewhere, StoreEdited}
+use Rattle.flashrules.specs.Laws.{ChecksumLoaded, BlockLength, BlockEmpty, LoadedLength, StoreLength, StoreHere, Within, StoreOutside, StoreElsewhere, StoreDiffering, StoreMost, StoreEdited}
 use Rattle.flashrules.specs.declared.layout.Layout.{Layout}
 use Rattle.flashrules.specs.declared.lookup.Lookup.{Lookup}
 use Rattle.flashrules.proofs.Picks.{on-test, on-answer}
+use Rattle.flashrules.proofs.DifferingLaws.{differing-self, differing-most, differing-paste}
 use Rattle.flashrules.proofs.PartLaws.{part-length, part-paste, paste-below, paste-above, part-apart, paste-sets, paste-self}
 use Rattle.flashrules.proofs.LookupLaws.{block-inside, blocks-apart, refused-number}
 
@@ -42,6 +44,13 @@ pub block-length : BlockLength
 unfolding blockBytes
 block-length l image i b =
     on-answer (findBlock l (length image) i b) (λ s k p. rw p (part-length image s k (block-inside l (length image) i b s k p .end))) (λ e p. rw p)
+
+pub block-most : (l : Layout) (image : List ℕ) (i b : ℕ) → length (blockBytes l image i b) ≤ blockSize
+unfolding blockBytes
+block-most l image i b =
+    on-answer (findBlock l (length image) i b)
+    (λ s k p. let h = block-inside l (length image) i b s k p in rw p (omega (arith, h .most, part-length image s k (h .end))))
+    (λ e p. rw p (omega arith))
 
 refused-empty : (l : Layout) (image : List ℕ) (i b k : ℕ) → findBlock l (length image) i b ≡ Lookup.Refused k → blockBytes l image i b ≡ []
 unfolding blockBytes
@@ -129,6 +138,31 @@ module _ (l : Layout) (image : List ℕ) (i b : ℕ) (w : List ℕ) (lw : length
       (λ e p′. rw p′))
       (λ e p. rw (not-stored e p)))
 
+  -- the image is the block's own bytes pasted where they stand
+  found-differing : (s k : ℕ) → findBlock l (length image) i b ≡ Lookup.Found s k
+      → differing image (paste image s w k) ≡ differing (take k (drop s image)) (take k w)
+  found-differing s k p =
+      let bs = take k (drop s image) in
+      let n : length bs ≡ k = part-length image s k (end s k p) in
+      let self : paste image s (bs ++ []) k ≡ image = paste-self image s k (end s k p) [] in
+      let long : k ≤ length (bs ++ []) = omega (arith, length-append bs []) in
+      ap (λ (f : List ℕ). differing f (paste image s w k)) (sym self) ∙ differing-paste image (bs ++ []) w s k long (most s k p)
+      ∙ ap (λ (x : List ℕ). differing x (take k w)) (take-at bs [] k n)
+
+  stored-differing : let bs = blockBytes l image i b in differing image (storeBlock l image i b w) ≡ differing bs (take (length bs) w)
+  unfolding blockBytes
+  stored-differing =
+      on-answer (findBlock l (length image) i b)
+      (λ s k p. rw (stored s k p, p, part-length image s k (end s k p)) (found-differing s k p))
+      (λ e p. rw (not-stored e p, p) (differing-self image))
+
+  stored-most : differing image (storeBlock l image i b w) ≤ blockSize
+  stored-most =
+      let bs = blockBytes l image i b in
+      let few : length bs ≤ blockSize = block-most l image i b in
+      let n : length (take (length bs) w) ≡ length bs = length-take-le (length bs) w (omega arith) in
+      omega (arith, stored-differing, differing-most bs (take (length bs) w) (sym n))
+
 pub store-length : StoreLength
 store-length = stored-length
 
@@ -140,6 +174,12 @@ store-outside = stored-outside
 
 pub store-elsewhere : StoreElsewhere
 store-elsewhere = stored-elsewhere
+
+pub store-differing : StoreDiffering
+store-differing = stored-differing
+
+pub store-most : StoreMost
+store-most = stored-most
 
 pub store-edited : StoreEdited
 unfolding storeBlock blockBytes asLoaded

@@ -120,6 +120,20 @@ StoreElsewhere =
     → ((i ≡ i′) × (b ≡ b′) → ⊥)
     → blockBytes l (storeBlock l image i b w) i′ b′ ≡ blockBytes l image i′ b′
 
+-- C-12: it differs from what it was in as many bytes as the block does from the window's first
+-- ones; the window's bytes past a short block do not count
+abbrev pub StoreDiffering : Type 0
+StoreDiffering =
+    (l : Layout) (image : List ℕ) (i b : ℕ) (w : List ℕ) → length w ≡ blockSize
+    → let bs = blockBytes l image i b in
+    differing image (storeBlock l image i b w) ≡ differing bs (take (length bs) w)
+
+-- so in no more bytes than a block has
+abbrev pub StoreMost : Type 0
+StoreMost =
+    (l : Layout) (image : List ℕ) (i b : ℕ) (w : List ℕ) → length w ≡ blockSize
+    → differing image (storeBlock l image i b w) ≤ blockSize
+
 -- a block as loaded, with bytes put in its window from byte o on, and stored: the image has them
 -- there, and is else what it was
 abbrev pub StoreEdited : Type 0

@@ -1,5 +1,5 @@
 -- Laws of a write: one byte by its register, the loop over the bytes, and the checks before it.
-use Prim.Native.Nat.{ℕ, _+_, _≤_, _<_}
+use Prim.Native.Nat.{ℕ, _+_, _*_, _≤_, _<_}
 use mathlib.Core.Path.{_≡_, sym, _∙_, subst}
 use mathlib.Core.Bool.{true, cond}
 use mathlib.Core.List.{List, _∷_}
@@ -8,6 +8,8 @@ use native.Mathlib.Omega.{arith}
 use lib.Dec.{eqb, ltb}
 use lib.ListN.{length, getD, drop, drop-of-length-le}
 use lib.Seq.{drop-cons}
+use mir.Syntax.{w64}
+use mir.Val.{Fits}
 use borrow.Author.Tests.{eq-eqb, ne-eqb, lt-ltb}
 use Rattle.flashrules.specs.Error.{readOnly}
 use Rattle.flashrules.specs.Outcome.{Outcome, outcome}
@@ -24,6 +26,8 @@ use Rattle.gaugerules.specs.declared.answer.ByteWritten.{ByteWritten}
 use Rattle.gaugerules.specs.declared.answer.Written.{Written}
 use Rattle.gaugerules.proofs.RegisterLaws.{on-register}
 use Rattle.gaugerules.proofs.RunLaws.{called}
+use Rattle.gaugerules.proofs.WindowLaws.{byte-whole}
+use Rattle.gaugerules.proofs.ChangedLaws.{byte-most}
 
 -- ---- registers
 
@@ -89,21 +93,36 @@ takes-word l image g r byte s q e = rw (← q) e
 -- ---- the loop over the bytes: what is left to write gives what the whole gives. `e` is its
 -- invariant
 
-module _ (l : Layout) (image : List ℕ) (g : Gauge) (bs : List ℕ) (at i : ℕ) (z : Outcome Written (List ℕ)) (e : writeBytes l image g at i (drop i bs) ≡ z) where
-  pub run-end : length bs ≤ i → outcome (written 0 i g) image ≡ z
+module _ (l : Layout) (image : List ℕ) (g : Gauge) (bs : List ℕ) (at i c : ℕ) (z : Outcome Written (List ℕ)) (e : writeBytes l image g at i c (drop i bs) ≡ z) where
+  pub run-end : length bs ≤ i → outcome (written 0 i c g) image ≡ z
   unfolding writeBytes
   run-end h = rw drop-of-length-le at e
 
   module _ (s : ByteWritten) (to : List ℕ) (p : outcome s to ≡ writeByte l image g at (getD bs i 0)) (h : i < length bs) where
-    run-turn : cond (eqb (s .error) 0) (writeBytes l to (s .gauge) (at + 1) (i + 1) (drop (i + 1) bs)) (outcome (written (s .error) i (s .gauge)) to) ≡ z
+    run-turn : cond (eqb (s .error) 0) (writeBytes l to (s .gauge) (at + 1) (i + 1) (c + s .changed) (drop (i + 1) bs)) (outcome (written (s .error) i (c + s .changed) (s .gauge)) to) ≡ z
     unfolding writeBytes outcome
     run-turn = let q : drop i bs ≡ getD bs i 0 ∷ drop (i + 1) bs = rw (add-one, drop-cons bs i 0) in rw (q, ← p) at e
 
-    pub run-more : s .error ≡ 0 → writeBytes l to (s .gauge) (at + 1) (i + 1) (drop (i + 1) bs) ≡ z
+    pub run-more : s .error ≡ 0 → writeBytes l to (s .gauge) (at + 1) (i + 1) (c + s .changed) (drop (i + 1) bs) ≡ z
     run-more q = rw (eq-eqb (s .error) 0 q) at run-turn
 
-    pub run-stop : (s .error ≡ 0 → ⊥) → outcome (written (s .error) i (s .gauge)) to ≡ z
+    pub run-stop : (s .error ≡ 0 → ⊥) → outcome (written (s .error) i (c + s .changed) (s .gauge)) to ≡ z
     run-stop q = rw (ne-eqb (s .error) 0 q) at run-turn
+
+-- a window keeps its length; and what i bytes change, each no more than a block has, and one more
+module _ (l : Layout) (image to : List ℕ) (g : Gauge) (at b i c : ℕ) (s : ByteWritten) (p : outcome s to ≡ writeByte l image g at b)
+    (w : length (g .window) ≡ blockSize) where
+  pub window-stays : length (s .gauge .window) ≡ blockSize
+  unfolding outcome writeByte
+  window-stays = rw (← p) at (byte-whole l image g b w (registerOf at) .0)
+
+  pub sum-most : c ≤ blockSize * i → c + s .changed ≤ blockSize * (i + 1)
+  unfolding outcome
+  sum-most h = let most : s .changed ≤ blockSize = rw (← p) at (byte-most l image g at b w) in omega arith
+
+  -- there are few registers, so the sum is a number of the machine
+  pub sum-fits : c ≤ blockSize * i → (r n : ℕ) → r + n ≤ registers → i < n → Fits w64 (c + s .changed)
+  sum-fits h r n span k = record { fits = omega (arith, sum-most h) }
 
 -- ---- the checks before the first byte
 
@@ -114,10 +133,10 @@ module _ (l : Layout) (image bs : List ℕ) (g : Gauge) (r e : ℕ) (p : e ≡ c
   pub writes-span : e ≡ 0 → r + length bs ≤ registers
   writes-span q = called l (length image) g r (length bs) (sym p ∙ q) .span
 
-  pub writes : (w : Written) (to : List ℕ) → e ≡ 0 → outcome w to ≡ writeBytes l image g r 0 bs → outcome w to ≡ write l image g r bs
+  pub writes : (w : Written) (to : List ℕ) → e ≡ 0 → outcome w to ≡ writeBytes l image g r 0 0 bs → outcome w to ≡ write l image g r bs
   unfolding write
   writes w to q x = rw (← p, eq-eqb e 0 q) x
 
-  pub writes-not : (e ≡ 0 → ⊥) → outcome (written e 0 g) image ≡ write l image g r bs
+  pub writes-not : (e ≡ 0 → ⊥) → outcome (written e 0 0 g) image ≡ write l image g r bs
   unfolding write
   writes-not q = rw (← p, ne-eqb e 0 q)

@@ -1,5 +1,6 @@
 // A write: its bytes one by one at the register, the next and so on, until one is refused. A
-// refused byte alters neither gauge nor image; the bytes before it stand.
+// refused byte alters neither gauge nor image; the bytes before it stand, and what a commit among
+// them changed is answered.
 use crate::register::decode;
 use blocktransfer::commit;
 use blocktransfer::edit;
@@ -37,6 +38,7 @@ fn keep_low(gauge: Gauge, byte: u8) -> ByteWritten
     next.low = byte;
     ByteWritten {
         error: 0,
+        changed: 0,
         gauge: next,
     }
 }
@@ -47,6 +49,7 @@ fn take_word(layout: Layout, image: &[u8], gauge: Gauge, byte: u8) -> ByteWritte
 {
     ByteWritten {
         error: 0,
+        changed: 0,
         gauge: take_high(layout, image, gauge, byte),
     }
 }
@@ -72,6 +75,7 @@ fn write_byte(
         Register::BlockDataControl => set_control(gauge, byte),
         Register::Other => ByteWritten {
             error: READ_ONLY,
+            changed: 0,
             gauge,
         },
     }
@@ -121,15 +125,17 @@ fn write_bytes(
     bytes: &[u8],
 ) -> Written
     requires { ⌜ register + length (now bytes) ≤ registers ⌝ }
-    ensures { λ w. ⌜ outcome w (now (image .exit)) ≡ writeBytes layout (now (image .entry)) gauge register 0 (now (bytes .entry)) ⌝ }
+    ensures { λ w. ⌜ outcome w (now (image .exit)) ≡ writeBytes layout (now (image .entry)) gauge register 0 0 (now (bytes .entry)) ⌝ }
 {
     let mut next = gauge;
     let mut at = register;
     let mut i = 0;
+    let mut changed = 0;
     while i < bytes.len() {
         let byte = write_byte(layout, image, next, at, bytes[i]);
         let error = byte.error;
         next = byte.gauge;
+        changed += byte.changed;
         if error == 0 {
             at += 1;
             i += 1;
@@ -137,6 +143,7 @@ fn write_bytes(
             return Written {
                 error,
                 accepted: i,
+                changed,
                 gauge: next,
             };
         }
@@ -144,6 +151,7 @@ fn write_bytes(
     Written {
         error: 0,
         accepted: i,
+        changed,
         gauge: next,
     }
 }
@@ -159,6 +167,7 @@ pub fn write(layout: Layout, image: &mut [u8], gauge: Gauge, register: u8, bytes
     Written {
         error,
         accepted: 0,
+        changed: 0,
         gauge,
     }
 }

@@ -4,6 +4,7 @@ use mathlib.Core.Path.{_≡_, refl, sym, ap, _∙_}
 use mathlib.Core.Logic.{⊎-elim}
 use mathlib.Core.Bool.{true, false, true≢false}
 use mathlib.Core.List.{List, [], _∷_, _++_}
+use native.Mathlib.Nat.{zero-add}
 use native.Mathlib.Omega.{arith}
 use lib.Dec.{ltb}
 use lib.ListN.{length, take, drop, set}
@@ -12,6 +13,7 @@ use borrow.Author.Tests.{eq-eqb, le-ltb}
 use Rattle.checksum.specs.Checksum.{checksum}
 use Rattle.flashrules.specs.Error.{shortBuffer}
 use Rattle.flashrules.specs.Outcome.{outcome}
+use Rattle.flashrules.specs.Choice.{differing}
 use Rattle.flashrules.specs.Lookup.{blockSize, findBlock}
 use Rattle.flashrules.specs.Image.{maxByte, Bytes, blockBytes, asLoaded}
 use Rattle.flashrules.specs.declared.layout.Layout.{Layout}
@@ -40,16 +42,16 @@ use Rattle.gaugerules.proofs.ValidLaws.{write-good}
 
 -- no byte is refused before it is looked at
 runs-whole : (l : Layout) (image : List ℕ) (g : Gauge) (r : ℕ) (bs : List ℕ) → Good l image g → 1 ≤ length bs → r + length bs ≤ registers
-    → write l image g r bs ≡ writeBytes l image g r 0 bs
+    → write l image g r bs ≡ writeBytes l image g r 0 0 bs
 unfolding write
 runs-whole l image g r bs o some span =
     rw (calls-with l (length image) g r (length bs) (record { fitting = o .fits; sound = o .valid; span = span; some = some }))
 
 -- what an accepted write leaves is good
-goes-good : (l : Layout) (image : List ℕ) (g h : Gauge) (r n : ℕ) (bs to : List ℕ) → Bytes bs → Good l image g
-    → write l image g r bs ≡ outcome (written 0 n h) to → Good l to h
+goes-good : (l : Layout) (image : List ℕ) (g h : Gauge) (r n c : ℕ) (bs to : List ℕ) → Bytes bs → Good l image g
+    → write l image g r bs ≡ outcome (written 0 n c h) to → Good l to h
 unfolding outcome
-goes-good l image g h r n bs to b o e = rw e at (write-good l image g r bs b o)
+goes-good l image g h r n c bs to b o e = rw e at (write-good l image g r bs b o)
 
 one-byte : (x : ℕ) → x ≤ maxByte → Bytes (x ∷ [])
 one-byte x h zero = h
@@ -62,7 +64,7 @@ not-sealed g a = on-test (isSealed g) (λ p. absurd (true≢false (sym a ∙ rw 
 -- ---- general access
 
 module _ (l : Layout) (image : List ℕ) (g : Gauge) (o : Good l image g) (u : isSealed g ≡ false) where
-  control-accepted : write l image g blockDataControl (controlFlash ∷ []) ≡ outcome (written 0 1 (flashSelected g)) image
+  control-accepted : write l image g blockDataControl (controlFlash ∷ []) ≡ outcome (written 0 1 0 (flashSelected g)) image
   unfolding writeBytes writeByte writeAt registerOf setControl outcome
   control-accepted = rw (runs-whole l image g blockDataControl (controlFlash ∷ []) o (omega arith) (omega arith), u)
 
@@ -70,7 +72,7 @@ module _ (l : Layout) (image : List ℕ) (g : Gauge) (o : Good l image g) (u : i
   selects-flash =
       record {
         accepted = control-accepted;
-        good = goes-good l image g (flashSelected g) blockDataControl 1 (controlFlash ∷ []) image (one-byte controlFlash (omega arith)) o control-accepted;
+        good = goes-good l image g (flashSelected g) blockDataControl 1 0 (controlFlash ∷ []) image (one-byte controlFlash (omega arith)) o control-accepted;
         access = rw u;
       }
 
@@ -85,12 +87,12 @@ module _ (l : Layout) (image : List ℕ) (g : Gauge) (i b s k : ℕ) (o : Good l
   both-bytes zero = hi
   both-bytes (suc j) = one-byte b hb j
 
-  block-accepted : write l image g dataFlashClass (i ∷ b ∷ []) ≡ outcome (written 0 2 (blockSelected l image g i b)) image
+  block-accepted : write l image g dataFlashClass (i ∷ b ∷ []) ≡ outcome (written 0 2 0 (blockSelected l image g i b)) image
   unfolding writeBytes writeByte writeAt registerOf setClass selectBlock loadBlock outcome
   block-accepted = rw (runs-whole l image g dataFlashClass (i ∷ b ∷ []) o (omega arith) (omega arith), not-sealed g a, a, p)
 
   block-good : Good l image (blockSelected l image g i b)
-  block-good = goes-good l image g (blockSelected l image g i b) dataFlashClass 2 (i ∷ b ∷ []) image both-bytes o block-accepted
+  block-good = goes-good l image g (blockSelected l image g i b) dataFlashClass 2 0 (i ∷ b ∷ []) image both-bytes o block-accepted
 
   selects-block : BlockSelects l image g i b
   selects-block = record { accepted = block-accepted; good = block-good; access = a }
@@ -153,17 +155,17 @@ edit-accepted l image g o b e h = rw (window-register o h, e)
 
 -- bytes for the window are accepted one by one
 runs-edits : (l : Layout) (image bs : List ℕ) (g : Gauge) (o n : ℕ) → editError g ≡ 0 → o + length bs ≤ blockSize
-    → writeBytes l image g (blockData + o) n bs ≡ outcome (written 0 (n + length bs) (withWindow g (sets (g .window) o bs))) image
+    → writeBytes l image g (blockData + o) n 0 bs ≡ outcome (written 0 (n + length bs) 0 (withWindow g (sets (g .window) o bs))) image
 unfolding writeBytes editError isProtected
-runs-edits l image [] g o n e h = ap (λ (m : ℕ). outcome (written 0 m g) image) (omega arith)
+runs-edits l image [] g o n e h = ap (λ (m : ℕ). outcome (written 0 m 0 g) image) (omega arith)
 runs-edits l image (b ∷ bs) g o n e h =
     let next : blockData + o + 1 ≡ blockData + suc o = omega arith in
     let c : Gauge = withWindow g (set (g .window) o b) in
     let ih = runs-edits l image bs c (suc o) (n + 1) e (omega arith) in
     let m : n + 1 + length bs ≡ n + length (b ∷ bs) = omega arith in
-    goes-on l image g (blockData + o) n b bs (accept c) image (edit-accepted l image g o b e (omega arith)) refl
-    ∙ ap (λ (r : ℕ). writeBytes l image c r (n + 1) bs) next ∙ ih
-    ∙ ap (λ (j : ℕ). outcome (written 0 j (withWindow g (sets (set (g .window) o b) (suc o) bs))) image) m
+    goes-on l image g (blockData + o) n 0 b bs (accept c) image (edit-accepted l image g o b e (omega arith)) refl
+    ∙ ap (λ (r : ℕ). writeBytes l image c r (n + 1) 0 bs) next ∙ ih
+    ∙ ap (λ (j : ℕ). outcome (written 0 j 0 (withWindow g (sets (set (g .window) o b) (suc o) bs))) image) m
 
 module _ (l : Layout) (image : List ℕ) (g : Gauge) (i b s k : ℕ) (good : Good l image g) (a : generalAccess g ≡ true) (hi : i ≤ maxByte) (hb : b ≤ maxByte)
     (p : findBlock l (length image) i b ≡ Lookup.Found s k) (o : ℕ) (bs : List ℕ) (bytes : Bytes bs) (some : 1 ≤ length bs) (end : o + length bs ≤ k) where
@@ -180,24 +182,28 @@ module _ (l : Layout) (image : List ℕ) (g : Gauge) (i b s k : ℕ) (good : Goo
   unfolding editError isProtected
   editable = rw (is-loaded, not-sealed g a)
 
-  edits : write l image loaded (blockData + o) bs ≡ outcome (written 0 (length bs) edited) image
+  edits : write l image loaded (blockData + o) bs ≡ outcome (written 0 (length bs) 0 edited) image
   edits =
       let most = block-inside l (length image) i b s k p .most in
       let n : 0 + length bs ≡ length bs = omega arith in
       runs-whole l image loaded (blockData + o) bs (block-good l image g i b s k good a hi hb p) some (omega arith)
-      ∙ runs-edits l image bs loaded o 0 editable (omega arith) ∙ ap (λ (m : ℕ). outcome (written 0 m edited) image) n
+      ∙ runs-edits l image bs loaded o 0 editable (omega arith) ∙ ap (λ (m : ℕ). outcome (written 0 m 0 edited) image) n
 
   edited-good : Good l image edited
   edited-good =
-      goes-good l image loaded edited (blockData + o) (length bs) bs image bytes (block-good l image g i b s k good a hi hb p) edits
+      goes-good l image loaded edited (blockData + o) (length bs) 0 bs image bytes (block-good l image g i b s k good a hi hb p) edits
 
-  commits-edited : write l image edited blockDataChecksum (checksum (edited .window) ∷ []) ≡ outcome (written 0 1 edited) (sets image (s + o) bs)
+  abbrev after : List ℕ
+  after = sets image (s + o) bs
+
+  commits-edited : write l image edited blockDataChecksum (checksum (edited .window) ∷ []) ≡ outcome (written 0 1 (differing image after) edited) after
   unfolding writeBytes writeByte writeAt registerOf commit commitError committed isProtected outcome
   commits-edited =
       rw (runs-whole l image edited blockDataChecksum (checksum (edited .window) ∷ []) edited-good (omega arith) (omega arith), is-loaded, not-sealed g a, eq-eqb (checksum (edited .window)) (checksum (edited .window)) refl)
-      (ap (outcome (written 0 1 edited)) (store-edited l image i b s k p o bs end))
+      (ap (λ (to : List ℕ). outcome (written 0 1 (0 + differing image to) edited) to) (store-edited l image i b s k p o bs end)
+      ∙ ap (λ (n : ℕ). outcome (written 0 1 n edited) after) (zero-add (differing image after)))
 
-  writes-block : BlockWrites l image g i b o bs (sets image (s + o) bs)
+  writes-block : BlockWrites l image g i b o bs after
   writes-block =
       record {
         select = block-accepted l image g i b s k good a hi hb p;
@@ -205,7 +211,7 @@ module _ (l : Layout) (image : List ℕ) (g : Gauge) (i b s k : ℕ) (good : Goo
         commit = commits-edited;
         mode = refl;
         access = a;
-        good = goes-good l image edited edited blockDataChecksum 1 (checksum (edited .window) ∷ []) (sets image (s + o) bs)
+        good = goes-good l image edited edited blockDataChecksum 1 (differing image after) (checksum (edited .window) ∷ []) after
             (one-byte (checksum (edited .window)) (omega arith)) edited-good commits-edited;
       }
 

@@ -9,6 +9,7 @@ use lib.ListN.{length, set}
 use borrow.Author.Tests.{eqb-true, leb-true}
 use Rattle.flashrules.specs.Error.{sealedRegister, unknownBlock, invalidControl}
 use Rattle.flashrules.specs.Outcome.{Outcome, outcome}
+use Rattle.flashrules.specs.Choice.{differing}
 use Rattle.flashrules.specs.Layout.{infoClass}
 use Rattle.flashrules.specs.Lookup.{findBlock}
 use Rattle.flashrules.specs.Image.{blockBytes, asLoaded}
@@ -16,7 +17,7 @@ use Rattle.flashrules.specs.declared.layout.Layout.{Layout}
 use Rattle.flashrules.specs.declared.lookup.Lookup.{Lookup}
 use Rattle.flashrules.proofs.Picks.{and-first, and-rest, on-answer, on-cond}
 use Rattle.gaugerules.specs.State.{controlInfo, infoBlocks, isSealed, generalAccess, withControl, withClass, withWindow, unload, load}
-use Rattle.gaugerules.specs.Transfer.{accept, refuse, setClass, loadBlock, selectsInfo, selectBlock, editError, edit, commitError, committed, setControl}
+use Rattle.gaugerules.specs.Transfer.{byteWritten, accept, refuse, setClass, loadBlock, selectsInfo, selectBlock, editError, edit, commitError, committed, setControl}
 use Rattle.gaugerules.specs.Write.{commit}
 use Rattle.gaugerules.specs.declared.state.Gauge.{Gauge}
 use Rattle.gaugerules.specs.declared.answer.ByteWritten.{ByteWritten}
@@ -50,7 +51,7 @@ module _ (P : ByteWritten → Type 0) (g : Gauge) (byte : ℕ) where
         on-cond P (selectsInfo byte) _ _ (λ t. info (search (and-first, leb-true)) (search (and-first, and-rest, leb-true))) (λ _. refused))
 
 pub on-commit : (P : Outcome ByteWritten (List ℕ) → Type 0) (l : Layout) (image : List ℕ) (g : Gauge) (byte : ℕ)
-    → (commitError l image g byte ≡ 0 → P (outcome (accept g) (committed l image g)))
+    → (commitError l image g byte ≡ 0 → let to = committed l image g in P (outcome (byteWritten 0 (differing image to) g) to))
     → P (outcome (refuse (commitError l image g byte) g) image) → P (commit l image g byte)
 unfolding commit
 on-commit P l image g byte accepted refused =

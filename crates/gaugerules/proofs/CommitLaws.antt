@@ -9,6 +9,7 @@ use lib.ListN.{length}
 use borrow.Author.Tests.{eqb-true, eqb-false}
 use Rattle.checksum.specs.Checksum.{checksum}
 use Rattle.flashrules.specs.Outcome.{outcome}
+use Rattle.flashrules.specs.Choice.{differing}
 use Rattle.flashrules.specs.Answer.{lengthOf}
 use Rattle.flashrules.specs.Layout.{fits}
 use Rattle.flashrules.specs.Lookup.{findBlock}
@@ -18,7 +19,7 @@ use Rattle.flashrules.proofs.Picks.{on-test, on-answer}
 use Rattle.gaugerules.specs.State.{loadedOf, noneLoaded}
 use Rattle.gaugerules.specs.Valid.{loadedValid}
 use Rattle.gaugerules.specs.Register.{registerOf}
-use Rattle.gaugerules.specs.Transfer.{accept, isProtected, commitError, committed}
+use Rattle.gaugerules.specs.Transfer.{byteWritten, refuse, isProtected, commitError, committed}
 use Rattle.gaugerules.specs.Write.{commit, writeAt, writeByte}
 use Rattle.gaugerules.specs.Laws.{commits, Committed, CommitRule}
 use Rattle.gaugerules.specs.declared.state.Gauge.{Gauge}
@@ -59,19 +60,19 @@ module _ (l : Layout) (image : List ℕ) (g : Gauge) (byte : ℕ) where
       })
 
   commit-done : fits l (length image) ≡ true → Valid l g → commits g byte ≡ true
-      → let s = commit l image g byte in (s .answer ≡ accept g) × Committed l image g (s .lent)
+      → let s = commit l image g byte in (s .answer ≡ byteWritten 0 (differing image (s .lent)) g) × Committed l image g (s .lent)
   unfolding commit outcome
   commit-done f v c =
       let q = commit-error l image g byte ∙ c in
       let e = committable l image g byte (eqb-true _ _ q) in
       rw q (refl, stored f v (e .class) (e .block) (e .loaded))
 
-  commit-refused : commits g byte ≡ false → let s = commit l image g byte in
-      (s .answer .error ≡ 0 → ⊥) × (s .answer .gauge ≡ g) × (s .lent ≡ image)
+  commit-refused : commits g byte ≡ false → let s = commit l image g byte in let e = s .answer .error in
+      (e ≡ 0 → ⊥) × (s ≡ outcome (refuse e g) image)
   unfolding commit outcome
   commit-refused c =
       let p = commit-error l image g byte ∙ c in
-      rw p (eqb-false (commitError l image g byte) 0 p, refl, refl)
+      rw p (eqb-false (commitError l image g byte) 0 p, refl)
 
 pub commit-rule : CommitRule
 unfolding writeByte writeAt registerOf

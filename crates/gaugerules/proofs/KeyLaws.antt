@@ -141,13 +141,14 @@ module _ (l : Layout) (image : List ℕ) (g : Gauge) (byte : ℕ) where
       (λ _ _. refl)
 
 -- so does a run that begins above them, since its registers only grow
-run-keeps : (l : Layout) (bs image : List ℕ) (g : Gauge) (r n : ℕ) → controlHigh < r → lock (writeBytes l image g r n bs .answer .gauge) ≡ lock g
+run-keeps : (l : Layout) (bs image : List ℕ) (g : Gauge) (r n c : ℕ) → controlHigh < r → lock (writeBytes l image g r n c bs .answer .gauge) ≡ lock g
 unfolding writeBytes outcome
-run-keeps l [] image g r n h = refl
-run-keeps l (b ∷ bs) image g r n h =
+run-keeps l [] image g r n c h = refl
+run-keeps l (b ∷ bs) image g r n c h =
     let s = writeByte l image g r b in
     let e : lock (s .answer .gauge) ≡ lock g = byte-keeps l image g b r h in
-    on-test (eqb (s .answer .error) 0) (λ p. rw p (run-keeps l bs (s .lent) (s .answer .gauge) (r + 1) (n + 1) (omega arith) ∙ e)) (λ p. rw p e)
+    on-test (eqb (s .answer .error) 0)
+    (λ p. rw p (run-keeps l bs (s .lent) (s .answer .gauge) (r + 1) (n + 1) (c + s .answer .changed) (omega arith) ∙ e)) (λ p. rw p e)
 
 -- ---- the run of a write makes one word or none
 
@@ -158,12 +159,12 @@ none-made low r (b ∷ bs) h = rw (not-control r h .0, not-control r h .1)
 
 module _ (l : Layout) (image : List ℕ) where
   -- a byte at 0x00 is the low byte of the next word
-  run-low : (g : Gauge) (b : ℕ) (bs : List ℕ) → writeBytes l image g controlLow 0 (b ∷ bs) ≡ writeBytes l image (withLow g b) controlHigh 1 bs
+  run-low : (g : Gauge) (b : ℕ) (bs : List ℕ) → writeBytes l image g controlLow 0 0 (b ∷ bs) ≡ writeBytes l image (withLow g b) controlHigh 1 0 bs
   unfolding writeByte writeAt registerOf outcome
-  run-low g b bs = goes-on l image g controlLow 0 b bs (accept (withLow g b)) image refl refl
+  run-low g b bs = goes-on l image g controlLow 0 0 b bs (accept (withLow g b)) image refl refl
 
   -- a byte at 0x01 makes a word, and no byte after it is accepted
-  run-high : (g : Gauge) (n b : ℕ) (bs : List ℕ) → let w = writeBytes l image g controlHigh n (b ∷ bs) in
+  run-high : (g : Gauge) (n b : ℕ) (bs : List ℕ) → let w = writeBytes l image g controlHigh n 0 (b ∷ bs) in
       (w .answer .gauge ≡ obey l image g (word (g .low) b)) × (w .answer .accepted ≡ n + 1)
   unfolding writeBytes writeByte writeAt registerOf outcome
   run-high g n b [] = (refl, refl)
@@ -185,7 +186,7 @@ module _ (l : Layout) (image : List ℕ) where
       abbrev RunBecomes : ℕ → List ℕ → Outcome Written (List ℕ) → Type 0
       RunBecomes r bytes w = Becomes l image past (made (g .low) r (take (w .answer .accepted) bytes)) (lock (w .answer .gauge))
 
-      runs-low : (bytes : List ℕ) → Bytes bytes → RunBecomes controlLow bytes (writeBytes l image g controlLow 0 bytes)
+      runs-low : (bytes : List ℕ) → Bytes bytes → RunBecomes controlLow bytes (writeBytes l image g controlLow 0 0 bytes)
       unfolding writeBytes outcome made
       runs-low [] s = no-word (lock g) v
       runs-low (b ∷ []) s = rw (run-low g b []) (no-word (lock (withLow g b)) (with-low b (s 0)))
@@ -193,16 +194,16 @@ module _ (l : Layout) (image : List ℕ) where
           let w = run-high (withLow g b) 1 c bs in
           rw (run-low g b (c ∷ bs), w .0, w .1) (one-word (withLow g b) (with-low b (s 0)) c (s 1))
 
-      runs-high : (bytes : List ℕ) → Bytes bytes → RunBecomes controlHigh bytes (writeBytes l image g controlHigh 0 bytes)
+      runs-high : (bytes : List ℕ) → Bytes bytes → RunBecomes controlHigh bytes (writeBytes l image g controlHigh 0 0 bytes)
       unfolding writeBytes outcome made
       runs-high [] s = no-word (lock g) v
       runs-high (b ∷ bs) s = let w = run-high g 0 b bs in rw (w .0, w .1) (one-word g v b (s 0))
 
-      runs-above : (r : ℕ) (bytes : List ℕ) → controlHigh < r → RunBecomes r bytes (writeBytes l image g r 0 bytes)
+      runs-above : (r : ℕ) (bytes : List ℕ) → controlHigh < r → RunBecomes r bytes (writeBytes l image g r 0 0 bytes)
       runs-above r bytes h =
-          rw (none-made (g .low) r (take (writeBytes l image g r 0 bytes .answer .accepted) bytes) h, run-keeps l bytes image g r 0 h) (no-word (lock g) v)
+          rw (none-made (g .low) r (take (writeBytes l image g r 0 0 bytes .answer .accepted) bytes) h, run-keeps l bytes image g r 0 0 h) (no-word (lock g) v)
 
-      runs : (r : ℕ) (bytes : List ℕ) → Bytes bytes → RunBecomes r bytes (writeBytes l image g r 0 bytes)
+      runs : (r : ℕ) (bytes : List ℕ) → Bytes bytes → RunBecomes r bytes (writeBytes l image g r 0 0 bytes)
       runs r bytes s =
           on-test (eqb r controlLow) (λ p. rw (eqb-true r controlLow p) (runs-low bytes s)) (λ p.
           on-test (eqb r controlHigh) (λ q. rw (eqb-true r controlHigh q) (runs-high bytes s)) (λ q.

@@ -1,11 +1,12 @@
 -- The claims of specs/, proved: what crates above cite. Each proof stands with the laws that it
 -- rests on.
-pub use Rattle.gaugerules.proofs.ByteLaws.{refused-byte, bytes-stand, only-commit}
+pub use Rattle.gaugerules.proofs.ByteLaws.{refused-byte, byte-changed, bytes-stand, only-commit}
 pub use Rattle.gaugerules.proofs.ErrorLaws.{byte-error, byte-errors, info-loads}
 pub use Rattle.gaugerules.proofs.ValidLaws.{power-on-valid, byte-good, write-good}
 pub use Rattle.gaugerules.proofs.WindowLaws.{write-length}
 pub use Rattle.gaugerules.proofs.CommitLaws.{commit-rule}
 pub use Rattle.gaugerules.proofs.WholeWrite.{write-commits, write-by-bytes}
+pub use Rattle.gaugerules.proofs.ChangedLaws.{write-changed, changed-none, changed-most}
 pub use Rattle.gaugerules.proofs.ReadLaws.{read-refused, read-accepted}
 pub use Rattle.gaugerules.proofs.SameLayouts.{same-valid, same-write, same-read}
 pub use Rattle.gaugerules.proofs.KeyLaws.{unseals-by-key}

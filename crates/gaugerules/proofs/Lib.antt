@@ -10,6 +10,7 @@ pub mod ValidLaws
 pub mod WindowLaws
 pub mod CommitLaws
 pub mod WholeWrite
+pub mod ChangedLaws
 pub mod ErrorLaws
 pub mod ReadLaws
 pub mod SameLayouts

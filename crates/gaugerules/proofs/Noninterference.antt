@@ -12,13 +12,13 @@ use lib.ListN.{length, length-set}
 use borrow.Author.Tests.{eqb-true, eqb-false, ltb-true}
 use Rattle.flashrules.specs.Error.{readOnly, sealedRegister, unknownBlock}
 use Rattle.flashrules.specs.Outcome.{Outcome, outcome}
-use Rattle.flashrules.specs.Choice.{and}
+use Rattle.flashrules.specs.Choice.{and, differing}
 use Rattle.flashrules.specs.Layout.{infoClass, fits}
 use Rattle.flashrules.specs.Lookup.{blockSize}
 use Rattle.flashrules.specs.Image.{blockBytes, asLoaded, storeBlock}
 use Rattle.flashrules.specs.Laws.{SameClasses}
 use Rattle.flashrules.specs.declared.layout.Layout.{Layout}
-use Rattle.flashrules.proofs.Laws.{loaded-length, store-length, store-here, store-outside, store-elsewhere, same-layout}
+use Rattle.flashrules.proofs.Laws.{loaded-length, store-length, store-here, store-outside, store-elsewhere, store-differing, same-layout}
 use Rattle.flashrules.proofs.LayoutLaws.{fits-parts}
 use Rattle.flashrules.proofs.Picks.{and-first, and-rest, on-test, on-cond}
 use Rattle.gaugerules.specs.State.{sealed, bootSealed, noBlock, controlInfo, infoBlocks, blockA, blockB, blockC}
@@ -26,7 +26,7 @@ use Rattle.gaugerules.specs.State.{isSealed, isFullAccess, nonePending, 
 use Rattle.gaugerules.specs.Valid.{valid, onlyInfoLoaded}
 use Rattle.gaugerules.specs.Register.{registerOf}
 use Rattle.gaugerules.specs.Word.{word, statusWord, sealWord, resetWord, keys, isKey, keyWanted, waits, keyWord, withStatus, obey}
-use Rattle.gaugerules.specs.Transfer.{accept, refuse, setClass, loadBlock, selectsInfo, selectBlock, isProtected, edit}
+use Rattle.gaugerules.specs.Transfer.{byteWritten, accept, refuse, setClass, loadBlock, selectsInfo, selectBlock, isProtected, edit}
 use Rattle.gaugerules.specs.Transfer.{commitError, committed, setControl}
 use Rattle.gaugerules.specs.Write.{commit, writeAt, writeByte, written, writeBytes, callError, write}
 use Rattle.gaugerules.specs.Read.{read}
@@ -208,17 +208,19 @@ module _ (l : Layout) (w : List ℕ) (b : ℕ) (lw : length w ≡ blockSize) whe
 -- ---- a run that unseals, and the calls by themselves
 
 -- the byte that unseals is the last one accepted, so the run does not end sealed
-run-unseals : (l : Layout) (image : List ℕ) (g : Gauge) (r n b : ℕ) (bs : List ℕ) → registerOf r ≡ Register.ControlHigh
-    → isSealed (obey l image g (word (g .low) b)) ≡ false → isSealed (writeBytes l image g r n (b ∷ bs) .answer .gauge) ≡ true → ⊥
+run-unseals : (l : Layout) (image : List ℕ) (g : Gauge) (r n c b : ℕ) (bs : List ℕ) → registerOf r ≡ Register.ControlHigh
+    → isSealed (obey l image g (word (g .low) b)) ≡ false → isSealed (writeBytes l image g r n c (b ∷ bs) .answer .gauge) ≡ true → ⊥
 unfolding writeByte writeAt
-run-unseals l image g r n b bs k o h =
-    let c = obey l image g (word (g .low) b) in
-    let p : writeBytes l image g r n (b ∷ bs) ≡ writeBytes l image c (r + 1) (n + 1) bs = goes-on l image g r n b bs (accept c) image (rw k) refl in
-    let e : writeBytes l image c (r + 1) (n + 1) bs .answer .gauge ≡ c = rw (is-control-high r k) (ends-after-word l image c (n + 1) bs .0) in
+run-unseals l image g r n c b bs k o h =
+    let d = obey l image g (word (g .low) b) in
+    let p : writeBytes l image g r n c (b ∷ bs) ≡ writeBytes l image d (r + 1) (n + 1) (c + 0) bs =
+    goes-on l image g r n c b bs (accept d) image (rw k) refl in
+    let e : writeBytes l image d (r + 1) (n + 1) (c + 0) bs .answer .gauge ≡ d =
+    rw (is-control-high r k) (ends-after-word l image d (n + 1) (c + 0) bs .0) in
     true≢false (sym (rw (p, e) at h) ∙ o)
 
 write-is : (l : Layout) (image : List ℕ) (g : Gauge) (r : ℕ) (bs : List ℕ) (e : ℕ) → callError l (length image) g r (length bs) ≡ e
-    → write l image g r bs ≡ cond (eqb e 0) (writeBytes l image g r 0 bs) (outcome (written e 0 g) image)
+    → write l image g r bs ≡ cond (eqb e 0) (writeBytes l image g r 0 0 bs) (outcome (written e 0 0 g) image)
 unfolding write
 write-is l image g r bs e p = rw p
 
@@ -281,6 +283,14 @@ module _ (l : Layout) (start₁ start₂ : List ℕ) where
           kept₂ = kept-stored l (g .window) b (q .whole) start₂ image₂ into (t .kept₂);
         })
 
+    -- how many bytes a commit changes is told by the block that it stores into
+    same-changed : Editable g → differing image₁ (committed l image₁ g) ≡ differing image₂ (committed l image₂ g)
+    unfolding committed
+    same-changed e =
+        let i = loaded-info g byte q e in
+        let b = i .number in
+        rw (i .is, store-differing l image₁ infoClass b (g .window) (q .whole), store-differing l image₂ infoClass b (g .window) (q .whole), t .agree .info b (i .few))
+
     -- the refusals of a commit ask nothing of the image
     same-error : commitError l image₁ g byte ≡ commitError l image₂ g byte
     unfolding commitError
@@ -291,14 +301,15 @@ module _ (l : Layout) (start₁ start₂ : List ℕ) where
     at-checksum =
         on-test (eqb (commitError l image₁ g byte) 0)
         (λ h.
+        let e = committable l image₁ g byte (eqb-true _ _ h) in
         record {
-          answer = accept g;
+          answer = byteWritten 0 (differing image₁ (committed l image₁ g)) g;
           image₁ = committed l image₁ g;
           image₂ = committed l image₂ g;
           is₁ = rw h;
-          is₂ = rw (← same-error, h);
+          is₂ = rw (← same-error, h, same-changed e);
           quiet = q;
-          agreeing = committed-agreeing (committable l image₁ g byte (eqb-true _ _ h));
+          agreeing = committed-agreeing e;
         })
         (λ h. to (refuse (commitError l image₁ g byte) g) (rw h) (rw (← same-error, h)) q)
 
@@ -339,44 +350,46 @@ module _ (l : Layout) (start₁ start₂ : List ℕ) where
   -- what is claimed of the runs over bs
   abbrev SameRuns : List ℕ → Type 0
   SameRuns bs =
-      (g : Gauge) (image₁ image₂ : List ℕ) (r n : ℕ) → Quiet g → Agreeing image₁ image₂
-      → isSealed (writeBytes l image₁ g r n bs .answer .gauge) ≡ true → isSealed (writeBytes l image₂ g r n bs .answer .gauge) ≡ true
-      → BothRan (writeBytes l image₁ g r n bs) (writeBytes l image₂ g r n bs)
+      (g : Gauge) (image₁ image₂ : List ℕ) (r n c : ℕ) → Quiet g → Agreeing image₁ image₂
+      → isSealed (writeBytes l image₁ g r n c bs .answer .gauge) ≡ true → isSealed (writeBytes l image₂ g r n c bs .answer .gauge) ≡ true
+      → BothRan (writeBytes l image₁ g r n c bs) (writeBytes l image₂ g r n c bs)
 
   one-more : (b : ℕ) (bs : List ℕ) → SameRuns bs → SameRuns (b ∷ bs)
   unfolding writeByte
-  one-more b bs ih g image₁ image₂ r n q t h₁ h₂ =
+  one-more b bs ih g image₁ image₂ r n c q t h₁ h₂ =
       ⊎-elim (λ s. on-test (eqb (s .answer .error) 0) (more s) (last s))
       (λ o.
-      ⊎-elim (λ u. absurd (run-unseals l image₁ g r n b bs (o .0) u h₁)) (λ u. absurd (run-unseals l image₂ g r n b bs (o .0) u h₂)) (o .1))
+      ⊎-elim (λ u. absurd (run-unseals l image₁ g r n c b bs (o .0) u h₁)) (λ u. absurd (run-unseals l image₂ g r n c b bs (o .0) u h₂)) (o .1))
       (at-register image₁ image₂ t g b q (registerOf r))
     where
       First : Type 0
       First = BothBytes (writeByte l image₁ g r b) (writeByte l image₂ g r b)
 
       Goal : Type 0
-      Goal = BothRan (writeBytes l image₁ g r n (b ∷ bs)) (writeBytes l image₂ g r n (b ∷ bs))
+      Goal = BothRan (writeBytes l image₁ g r n c (b ∷ bs)) (writeBytes l image₂ g r n c (b ∷ bs))
 
       more : (s : First) → eqb (s .answer .error) 0 ≡ true → Goal
       more s h =
-          let p₁ = goes-on l image₁ g r n b bs (s .answer) (s .image₁) (s .is₁) h in
-          let p₂ = goes-on l image₂ g r n b bs (s .answer) (s .image₂) (s .is₂) h in
-          rw (p₁, p₂) (ih (s .answer .gauge) (s .image₁) (s .image₂) (r + 1) (n + 1) (s .quiet) (s .agreeing) (rw p₁ at h₁) (rw p₂ at h₂))
+          let p₁ = goes-on l image₁ g r n c b bs (s .answer) (s .image₁) (s .is₁) h in
+          let p₂ = goes-on l image₂ g r n c b bs (s .answer) (s .image₂) (s .is₂) h in
+          rw (p₁, p₂)
+          (ih (s .answer .gauge) (s .image₁) (s .image₂) (r + 1) (n + 1) (c + s .answer .changed) (s .quiet) (s .agreeing) (rw p₁ at h₁) (rw p₂ at h₂))
 
       last : (s : First) → eqb (s .answer .error) 0 ≡ false → Goal
       last s h = record {
-        answer = written (s .answer .error) n (s .answer .gauge);
+        answer = written (s .answer .error) n (c + s .answer .changed) (s .answer .gauge);
         image₁ = s .image₁;
         image₂ = s .image₂;
-        is₁ = stops l image₁ g r n b bs (s .answer) (s .image₁) (s .is₁) h;
-        is₂ = stops l image₂ g r n b bs (s .answer) (s .image₂) (s .is₂) h;
+        is₁ = stops l image₁ g r n c b bs (s .answer) (s .image₁) (s .is₁) h;
+        is₂ = stops l image₂ g r n c b bs (s .answer) (s .image₂) (s .is₂) h;
         quiet = s .quiet;
         agreeing = s .agreeing;
       }
 
   runs : (bs : List ℕ) → SameRuns bs
   unfolding writeBytes
-  runs [] = λ g image₁ image₂ r n q t h₁ h₂. record { answer = written 0 n g; image₁ = image₁; image₂ = image₂; is₁ = refl; is₂ = refl; quiet = q; agreeing = t }
+  runs [] = λ g image₁ image₂ r n c q t h₁ h₂.
+      record { answer = written 0 n c g; image₁ = image₁; image₂ = image₂; is₁ = refl; is₂ = refl; quiet = q; agreeing = t }
   runs (b ∷ bs) = one-more b bs (runs bs)
 
   writes : (g : Gauge) (image₁ image₂ : List ℕ) (r : ℕ) (bs : List ℕ) → Quiet g → Agreeing image₁ image₂
@@ -385,18 +398,18 @@ module _ (l : Layout) (start₁ start₂ : List ℕ) where
   writes g image₁ image₂ r bs q t h₁ h₂ =
       on-test (eqb e 0)
       (λ h.
-      let p₁ : write l image₁ g r bs ≡ writeBytes l image₁ g r 0 bs = rw h at is₁ in
-      let p₂ : write l image₂ g r bs ≡ writeBytes l image₂ g r 0 bs = rw h at is₂ in
-      rw (p₁, p₂) (runs bs g image₁ image₂ r 0 q t (rw p₁ at h₁) (rw p₂ at h₂)))
-      (λ h. record { answer = written e 0 g; image₁ = image₁; image₂ = image₂; is₁ = rw h at is₁; is₂ = rw h at is₂; quiet = q; agreeing = t })
+      let p₁ : write l image₁ g r bs ≡ writeBytes l image₁ g r 0 0 bs = rw h at is₁ in
+      let p₂ : write l image₂ g r bs ≡ writeBytes l image₂ g r 0 0 bs = rw h at is₂ in
+      rw (p₁, p₂) (runs bs g image₁ image₂ r 0 0 q t (rw p₁ at h₁) (rw p₂ at h₂)))
+      (λ h. record { answer = written e 0 0 g; image₁ = image₁; image₂ = image₂; is₁ = rw h at is₁; is₂ = rw h at is₂; quiet = q; agreeing = t })
     where
       e : ℕ
       e = callError l (length image₁) g r (length bs)
 
-      is₁ : write l image₁ g r bs ≡ cond (eqb e 0) (writeBytes l image₁ g r 0 bs) (outcome (written e 0 g) image₁)
+      is₁ : write l image₁ g r bs ≡ cond (eqb e 0) (writeBytes l image₁ g r 0 0 bs) (outcome (written e 0 0 g) image₁)
       is₁ = write-is l image₁ g r bs e refl
 
-      is₂ : write l image₂ g r bs ≡ cond (eqb e 0) (writeBytes l image₂ g r 0 bs) (outcome (written e 0 g) image₂)
+      is₂ : write l image₂ g r bs ≡ cond (eqb e 0) (writeBytes l image₂ g r 0 0 bs) (outcome (written e 0 0 g) image₂)
       is₂ = write-is l image₂ g r bs e (rw (same-length t))
 
   -- ---- a script

@@ -22,23 +22,23 @@ use Rattle.gaugerules.proofs.RegisterLaws.{on-register}
 
 -- ---- one turn, by what its byte did
 
-module _ (l : Layout) (image : List ℕ) (g : Gauge) (r n b : ℕ) (bs : List ℕ) (s : ByteWritten) (to : List ℕ)
+module _ (l : Layout) (image : List ℕ) (g : Gauge) (r n c b : ℕ) (bs : List ℕ) (s : ByteWritten) (to : List ℕ)
     (p : writeByte l image g r b ≡ outcome s to) where
-  pub goes-on : eqb (s .error) 0 ≡ true → writeBytes l image g r n (b ∷ bs) ≡ writeBytes l to (s .gauge) (r + 1) (n + 1) bs
+  pub goes-on : eqb (s .error) 0 ≡ true → writeBytes l image g r n c (b ∷ bs) ≡ writeBytes l to (s .gauge) (r + 1) (n + 1) (c + s .changed) bs
   unfolding writeBytes outcome
   goes-on q = rw (p, q)
 
-  pub stops : eqb (s .error) 0 ≡ false → writeBytes l image g r n (b ∷ bs) ≡ outcome (written (s .error) n (s .gauge)) to
+  pub stops : eqb (s .error) 0 ≡ false → writeBytes l image g r n c (b ∷ bs) ≡ outcome (written (s .error) n (c + s .changed) (s .gauge)) to
   unfolding writeBytes outcome
   stops q = rw (p, q)
 
 -- ---- after a control word: the next register takes no write, so the run ends there
 
-pub ends-after-word : (l : Layout) (image : List ℕ) (g : Gauge) (n : ℕ) (bs : List ℕ) → let w = writeBytes l image g (controlHigh + 1) n bs in
+pub ends-after-word : (l : Layout) (image : List ℕ) (g : Gauge) (n c : ℕ) (bs : List ℕ) → let w = writeBytes l image g (controlHigh + 1) n c bs in
     (w .answer .gauge ≡ g) × (w .lent ≡ image)
 unfolding writeBytes writeByte writeAt registerOf outcome
-ends-after-word l image g n [] = (refl, refl)
-ends-after-word l image g n (b ∷ bs) = (refl, refl)
+ends-after-word l image g n c [] = (refl, refl)
+ends-after-word l image g n c (b ∷ bs) = (refl, refl)
 
 -- which is the register of a control word
 pub is-control-high : (r : ℕ) → registerOf r ≡ Register.ControlHigh → r ≡ controlHigh

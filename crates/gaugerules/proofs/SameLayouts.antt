@@ -61,14 +61,15 @@ module _ (l l′ : Layout) (s : SameClasses l l′) where
   same-at Register.BlockDataControl image g byte = refl
   same-at Register.Other image g byte = refl
 
-  same-bytes-run : (bs image : List ℕ) (g : Gauge) (r n : ℕ) → writeBytes l image g r n bs ≡ writeBytes l′ image g r n bs
+  same-bytes-run : (bs image : List ℕ) (g : Gauge) (r n c : ℕ) → writeBytes l image g r n c bs ≡ writeBytes l′ image g r n c bs
   unfolding writeBytes writeByte
-  same-bytes-run [] image g r n = refl
-  same-bytes-run (b ∷ bs) image g r n =
+  same-bytes-run [] image g r n c = refl
+  same-bytes-run (b ∷ bs) image g r n c =
       let t = writeAt (registerOf r) l image g b in
       ap
-      (λ (w : Outcome Written (List ℕ)). cond (eqb (t .answer .error) 0) w (outcome (written (t .answer .error) n (t .answer .gauge)) (t .lent)))
-      (same-bytes-run bs (t .lent) (t .answer .gauge) (r + 1) (n + 1))
+      (λ (w : Outcome Written (List ℕ)).
+      cond (eqb (t .answer .error) 0) w (outcome (written (t .answer .error) n (c + t .answer .changed) (t .answer .gauge)) (t .lent)))
+      (same-bytes-run bs (t .lent) (t .answer .gauge) (r + 1) (n + 1) (c + t .answer .changed))
       ∙ rw (same-at (registerOf r) image g b)
 
   same-call : (size : ℕ) (g : Gauge) (r n : ℕ) → callError l size g r n ≡ callError l′ size g r n
@@ -77,7 +78,7 @@ module _ (l l′ : Layout) (s : SameClasses l l′) where
 
 pub same-write : SameWrite
 unfolding write
-same-write l l′ s image g r bytes = rw (same-call l l′ s (length image) g r (length bytes), same-bytes-run l l′ s bytes image g r 0)
+same-write l l′ s image g r bytes = rw (same-call l l′ s (length image) g r (length bytes), same-bytes-run l l′ s bytes image g r 0 0)
 
 pub same-read : SameRead
 unfolding read readError

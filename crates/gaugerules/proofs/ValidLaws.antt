@@ -10,6 +10,7 @@ use lib.Dec.{eqb}
 use lib.ListN.{length, length-set}
 use borrow.Author.Tests.{eqb-true, leb-true, eq-eqb, lt-ltb, le-leb}
 use Rattle.flashrules.specs.Outcome.{Outcome, outcome}
+use Rattle.flashrules.specs.Choice.{differing}
 use Rattle.flashrules.specs.Layout.{infoClass, fits}
 use Rattle.flashrules.specs.Lookup.{blockSize, blockExists}
 use Rattle.flashrules.specs.Image.{maxByte, Bytes, blockBytes, asLoaded}
@@ -23,7 +24,7 @@ use Rattle.gaugerules.specs.State.{powerOn, load, unload}
 use Rattle.gaugerules.specs.Valid.{maxWord, inRange, loadedValid, pendingValid, sealedValid, valid}
 use Rattle.gaugerules.specs.Register.{registerOf}
 use Rattle.gaugerules.specs.Word.{word, statusWord, sealWord, resetWord, status, keys, isKey, keyWanted, keyWord, waits, opened, obey}
-use Rattle.gaugerules.specs.Transfer.{accept, setClass, loadBlock, selectBlock, edit, commitError, committed, setControl}
+use Rattle.gaugerules.specs.Transfer.{byteWritten, setClass, loadBlock, selectBlock, edit, commitError, committed, setControl}
 use Rattle.gaugerules.specs.Write.{writeAt, writeByte, writeBytes, callError, write}
 use Rattle.gaugerules.specs.Laws.{Good, PowerOnValid, ByteGood, WriteGood}
 use Rattle.gaugerules.specs.declared.state.Gauge.{Gauge}
@@ -204,7 +205,7 @@ module _ (l : Layout) (g : Gauge) (v : Valid l g) where
     abbrev Stays : Outcome ByteWritten (List ℕ) → Type 0
     Stays s = Valid l (s .answer .gauge) × (length (s .lent) ≡ length image) × Bytes (s .lent)
 
-    commits-valid : commitError l image g byte ≡ 0 → Stays (outcome (accept g) (committed l image g))
+    commits-valid : commitError l image g byte ≡ 0 → let to = committed l image g in Stays (outcome (byteWritten 0 (differing image to) g) to)
     unfolding committed outcome
     commits-valid e =
         let c = committable l image g byte e in
@@ -233,15 +234,16 @@ byte-good l image g r byte h o =
 abbrev Ends : Layout → Outcome Written (List ℕ) → Type 0
 Ends l w = Good l (w .lent) (w .answer .gauge)
 
-run-good : (l : Layout) (bs : List ℕ) → Bytes bs → (image : List ℕ) (g : Gauge) (r n : ℕ) → Good l image g → Ends l (writeBytes l image g r n bs)
+run-good : (l : Layout) (bs : List ℕ) → Bytes bs → (image : List ℕ) (g : Gauge) (r n c : ℕ) → Good l image g → Ends l (writeBytes l image g r n c bs)
 unfolding writeBytes outcome
-run-good l [] h image g r n o = o
-run-good l (b ∷ bs) h image g r n o =
+run-good l [] h image g r n c o = o
+run-good l (b ∷ bs) h image g r n c o =
     let s = writeByte l image g r b in
     let o′ = byte-good l image g r b (h zero) o in
-    on-cond (Ends l) (eqb (s .answer .error) 0) _ _ (λ _. run-good l bs (λ k. h (suc k)) (s .lent) (s .answer .gauge) (r + 1) (n + 1) o′) (λ _. o′)
+    on-cond (Ends l) (eqb (s .answer .error) 0) _ _
+    (λ _. run-good l bs (λ k. h (suc k)) (s .lent) (s .answer .gauge) (r + 1) (n + 1) (c + s .answer .changed) o′) (λ _. o′)
 
 pub write-good : WriteGood
 unfolding write outcome
 write-good l image g r bytes h o =
-    on-cond (Ends l) (eqb (callError l (length image) g r (length bytes)) 0) _ _ (λ _. run-good l bytes h image g r 0 o) (λ _. o)
+    on-cond (Ends l) (eqb (callError l (length image) g r (length bytes)) 0) _ _ (λ _. run-good l bytes h image g r 0 0 o) (λ _. o)

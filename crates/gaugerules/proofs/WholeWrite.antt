@@ -26,14 +26,14 @@ use Rattle.gaugerules.proofs.ValidLaws.{byte-good}
 -- ---- the commit of a run
 
 -- above 0x60 nothing commits
-run-above : (l : Layout) (bs image : List ℕ) (g : Gauge) (r n : ℕ) → blockDataChecksum < r → writeBytes l image g r n bs .lent ≡ image
+pub run-above : (l : Layout) (bs image : List ℕ) (g : Gauge) (r n c : ℕ) → blockDataChecksum < r → writeBytes l image g r n c bs .lent ≡ image
 unfolding writeBytes outcome
-run-above l [] image g r n h = refl
-run-above l (b ∷ bs) image g r n h =
+run-above l [] image g r n c h = refl
+run-above l (b ∷ bs) image g r n c h =
     let s = writeByte l image g r b in
     let kept = only-commit l image g r b (λ e. omega arith) in
     on-test (eqb (s .answer .error) 0)
-    (λ p. rw p (run-above l bs (s .lent) (s .answer .gauge) (r + 1) (n + 1) (omega arith) ∙ kept)) (λ p. rw p kept)
+    (λ p. rw p (run-above l bs (s .lent) (s .answer .gauge) (r + 1) (n + 1) (c + s .answer .changed) (omega arith) ∙ kept)) (λ p. rw p kept)
 
 -- a byte at 0x60 that is accepted commits
 byte-commits : (l : Layout) (image : List ℕ) (g : Gauge) (r b : ℕ) → Good l image g → r ≡ blockDataChecksum → let s = writeByte l image g r b in
@@ -48,19 +48,22 @@ record Runs (l : Layout) (image : List ℕ) (g : Gauge) (n m : ℕ) (bs : List �
   reached : n + m < w .answer .accepted → (commits met (getD bs m 0) ≡ true) × Committed l image met (w .lent)
   not-reached : (n + m < w .answer .accepted → ⊥) → w .lent ≡ image
 
-module _ (l : Layout) (image : List ℕ) (g : Gauge) (r n b : ℕ) (bs : List ℕ) (o : Good l image g) where
+module _ (l : Layout) (image : List ℕ) (g : Gauge) (r n c b : ℕ) (bs : List ℕ) (o : Good l image g) where
   abbrev s : Outcome ByteWritten (List ℕ)
   s = writeByte l image g r b
 
   abbrev run : Outcome Written (List ℕ)
-  run = writeBytes l image g r n (b ∷ bs)
+  run = writeBytes l image g r n c (b ∷ bs)
+
+  abbrev c′ : ℕ
+  c′ = c + s .answer .changed
 
   -- the byte is refused: it is the last, and n were accepted
   ends : (m : ℕ) (met : Gauge) → eqb (s .answer .error) 0 ≡ false → Runs l image g n m (b ∷ bs) run met
   unfolding outcome
   ends m met p =
       let same = refused-byte l image g r b (eqb-false (s .answer .error) 0 p) in
-      rw (stops l image g r n b bs (s .answer) (s .lent) refl p)
+      rw (stops l image g r n c b bs (s .answer) (s .lent) refl p)
       (record { reached = λ k. absurd (omega arith); not-reached = λ _. same .1 })
 
   -- 0x60 itself
@@ -70,45 +73,46 @@ module _ (l : Layout) (image : List ℕ) (g : Gauge) (r n b : ℕ) (bs : List �
       on-test (eqb (s .answer .error) 0)
       (λ p.
       let to = s .lent in
-      let above = run-above l bs to (s .answer .gauge) (r + 1) (n + 1) (omega arith) in
-      let least = accepted-least l bs to (s .answer .gauge) (r + 1) (n + 1) in
-      let c = byte-commits l image g r b o at (eqb-true (s .answer .error) 0 p) in
-      rw (goes-on l image g r n b bs (s .answer) to refl p)
-      (record { reached = λ _. (c .0, rw above (c .1)); not-reached = λ k. absurd (k (omega arith)) }))
+      let above = run-above l bs to (s .answer .gauge) (r + 1) (n + 1) c′ (omega arith) in
+      let least = accepted-least l bs to (s .answer .gauge) (r + 1) (n + 1) c′ in
+      let does = byte-commits l image g r b o at (eqb-true (s .answer .error) 0 p) in
+      rw (goes-on l image g r n c b bs (s .answer) to refl p)
+      (record { reached = λ _. (does .0, rw above (does .1)); not-reached = λ k. absurd (k (omega arith)) }))
       (λ p. ends 0 g p)
 
   -- a byte before it leaves the image, and the run goes on
   before : (m : ℕ) → (r ≡ blockDataChecksum → ⊥) → eqb (s .answer .error) 0 ≡ true
-      → let c = s .answer .gauge in
-      Runs l image c (n + 1) m bs (writeBytes l image c (r + 1) (n + 1) bs) (writeBytes l image c (r + 1) (n + 1) (take m bs) .answer .gauge)
-      → Runs l image g n (suc m) (b ∷ bs) run (writeBytes l image g r n (b ∷ take m bs) .answer .gauge)
+      → let h = s .answer .gauge in
+      Runs l image h (n + 1) m bs (writeBytes l image h (r + 1) (n + 1) c′ bs) (writeBytes l image h (r + 1) (n + 1) c′ (take m bs) .answer .gauge)
+      → Runs l image g n (suc m) (b ∷ bs) run (writeBytes l image g r n c (b ∷ take m bs) .answer .gauge)
   unfolding outcome
   before m other p ih =
       let kept = only-commit l image g r b other in
       let is : s ≡ outcome (s .answer) image = ap (outcome (s .answer)) kept in
-      rw (goes-on l image g r n b bs (s .answer) image is p, goes-on l image g r n b (take m bs) (s .answer) image is p)
+      rw (goes-on l image g r n c b bs (s .answer) image is p, goes-on l image g r n c b (take m bs) (s .answer) image is p)
       (record { reached = λ k. ih .reached (omega arith); not-reached = λ k. ih .not-reached (λ z. k (omega arith)) })
 
-runs-none : (l : Layout) (image : List ℕ) (g : Gauge) (r n m : ℕ) (met : Gauge) → Runs l image g n m [] (writeBytes l image g r n []) met
+runs-none : (l : Layout) (image : List ℕ) (g : Gauge) (r n c m : ℕ) (met : Gauge) → Runs l image g n m [] (writeBytes l image g r n c []) met
 unfolding writeBytes outcome
-runs-none l image g r n m met = record { reached = λ k. absurd (omega arith); not-reached = λ _. refl }
+runs-none l image g r n c m met = record { reached = λ k. absurd (omega arith); not-reached = λ _. refl }
 
-met-here : (l : Layout) (image : List ℕ) (g : Gauge) (r n : ℕ) → writeBytes l image g r n [] .answer .gauge ≡ g
+met-here : (l : Layout) (image : List ℕ) (g : Gauge) (r n c : ℕ) → writeBytes l image g r n c [] .answer .gauge ≡ g
 unfolding writeBytes outcome
-met-here l image g r n = refl
+met-here l image g r n c = refl
 
-runs : (l : Layout) (m : ℕ) (bs : List ℕ) → Bytes bs → (image : List ℕ) (g : Gauge) (r n : ℕ) → Good l image g → r + m ≡ blockDataChecksum
-    → Runs l image g n m bs (writeBytes l image g r n bs) (writeBytes l image g r n (take m bs) .answer .gauge)
-runs l m [] h image g r n o e = runs-none l image g r n m _
-runs l zero (b ∷ bs) h image g r n o e = rw (met-here l image g r n) (here l image g r n b bs o (omega arith))
-runs l (suc m) (b ∷ bs) h image g r n o e =
+runs : (l : Layout) (m : ℕ) (bs : List ℕ) → Bytes bs → (image : List ℕ) (g : Gauge) (r n c : ℕ) → Good l image g → r + m ≡ blockDataChecksum
+    → Runs l image g n m bs (writeBytes l image g r n c bs) (writeBytes l image g r n c (take m bs) .answer .gauge)
+runs l m [] h image g r n c o e = runs-none l image g r n c m _
+runs l zero (b ∷ bs) h image g r n c o e = rw (met-here l image g r n c) (here l image g r n c b bs o (omega arith))
+runs l (suc m) (b ∷ bs) h image g r n c o e =
     let t = writeByte l image g r b in
     let other : r ≡ blockDataChecksum → ⊥ = λ z. omega arith in
     on-test (eqb (t .answer .error) 0)
     (λ p.
     let o′ : Good l image (t .answer .gauge) = rw (only-commit l image g r b other) at (byte-good l image g r b (h zero) o) in
-    before l image g r n b bs o m other p (runs l m bs (λ k. h (suc k)) image (t .answer .gauge) (r + 1) (n + 1) o′ (omega arith)))
-    (ends l image g r n b bs o (suc m) _)
+    before l image g r n c b bs o m other p
+    (runs l m bs (λ k. h (suc k)) image (t .answer .gauge) (r + 1) (n + 1) (c + t .answer .changed) o′ (omega arith)))
+    (ends l image g r n c b bs o (suc m) _)
 
 pub write-commits : WriteCommits
 unfolding write outcome
@@ -118,11 +122,11 @@ write-commits l image g r bytes h o =
     on-test (leb r blockDataChecksum)
     (λ u.
     let below = leb-true r blockDataChecksum u in
-    let c = runs l (blockDataChecksum - r) bytes h image g r 0 o (omega arith) in
+    let c = runs l (blockDataChecksum - r) bytes h image g r 0 0 o (omega arith) in
     rw p ((λ k. c .reached (omega (arith, k .1))), λ k. c .not-reached (λ z. k (below, omega arith))))
     (λ u.
     let above = leb-false r blockDataChecksum u in
-    rw p ((λ k. absurd (omega (arith, k .0))), λ _. run-above l bytes image g r 0 above)))
+    rw p ((λ k. absurd (omega (arith, k .0))), λ _. run-above l bytes image g r 0 0 above)))
     (λ p. rw p ((λ k. absurd (omega (arith, k .0, k .1))), λ _. refl))
 
 -- ---- a write is its bytes, one by one
@@ -130,32 +134,36 @@ write-commits l image g r bytes h o =
 -- a write of one byte does what the byte does
 one-write : (l : Layout) (image : List ℕ) (g : Gauge) (r b : ℕ) → Good l image g → r + 1 ≤ registers
     → let s = writeByte l image g r b in let w = write l image g r (b ∷ []) in
-    (w .answer .error ≡ s .answer .error) × (w .answer .gauge ≡ s .answer .gauge) × (w .lent ≡ s .lent)
+    (w .answer .error ≡ s .answer .error) × (w .answer .changed ≡ s .answer .changed) × (w .answer .gauge ≡ s .answer .gauge) × (w .lent ≡ s .lent)
 unfolding write writeBytes outcome
 one-write l image g r b o h =
     let s = writeByte l image g r b in
     let c = calls-with l (length image) g r 1 (record { fitting = o .fits; sound = o .valid; span = h; some = omega arith }) in
-    rw c (on-test (eqb (s .answer .error) 0) (λ p. rw p (sym (eqb-true _ _ p), refl, refl)) (λ p. rw p (refl, refl, refl)))
+    let none : 0 + s .answer .changed ≡ s .answer .changed = omega arith in
+    rw c (on-test (eqb (s .answer .error) 0) (λ p. rw p (sym (eqb-true _ _ p), none, refl, refl)) (λ p. rw p (refl, none, refl, refl)))
 
--- a turn of a run by two numbers, two gauges and two images that are equal
-same-turn : (next : List ℕ → Gauge → Outcome Written (List ℕ)) (n e e′ : ℕ) (c c′ : Gauge) (to to′ : List ℕ) → e′ ≡ e → c′ ≡ c → to′ ≡ to
-    → cond (eqb e 0) (next to c) (outcome (written e n c) to) ≡ cond (eqb e′ 0) (next to′ c′) (outcome (written e′ n c′) to′)
-same-turn next n e e′ c c′ to to′ p q s = rw (p, q, s)
+-- a turn of a run by numbers, gauges and images that are equal
+same-turn : (next : List ℕ → Gauge → ℕ → Outcome Written (List ℕ)) (n c e e′ k k′ : ℕ) (h h′ : Gauge) (to to′ : List ℕ)
+    → e′ ≡ e → k′ ≡ k → h′ ≡ h → to′ ≡ to
+    → cond (eqb e 0) (next to h (c + k)) (outcome (written e n (c + k) h) to)
+    ≡ cond (eqb e′ 0) (next to′ h′ (c + k′)) (outcome (written e′ n (c + k′) h′) to′)
+same-turn next n c e e′ k k′ h h′ to to′ p q r s = rw (p, q, r, s)
 
-by-bytes : (l : Layout) (bs : List ℕ) → Bytes bs → (image : List ℕ) (g : Gauge) (r n : ℕ) → Good l image g → r + length bs ≤ registers
-    → writeBytes l image g r n bs ≡ byteByByte l image g r n bs
+by-bytes : (l : Layout) (bs : List ℕ) → Bytes bs → (image : List ℕ) (g : Gauge) (r n c : ℕ) → Good l image g → r + length bs ≤ registers
+    → writeBytes l image g r n c bs ≡ byteByByte l image g r n c bs
 unfolding writeBytes byteByByte
-by-bytes l [] h image g r n o k = refl
-by-bytes l (b ∷ bs) h image g r n o k =
+by-bytes l [] h image g r n c o k = refl
+by-bytes l (b ∷ bs) h image g r n c o k =
     let s = writeByte l image g r b in
     let one = one-write l image g r b o (omega arith) in
     let o′ = byte-good l image g r b (h zero) o in
-    let ih = by-bytes l bs (λ j. h (suc j)) (s .lent) (s .answer .gauge) (r + 1) (n + 1) o′ (omega arith) in
-    ap (λ (w : Outcome Written (List ℕ)). cond (eqb (s .answer .error) 0) w (outcome (written (s .answer .error) n (s .answer .gauge)) (s .lent))) ih
-    ∙ same-turn (λ to c. byteByByte l to c (r + 1) (n + 1) bs) n _ _ _ _ _ _ (one .0) (one .1) (one .2)
+    let c′ = c + s .answer .changed in
+    let ih = by-bytes l bs (λ j. h (suc j)) (s .lent) (s .answer .gauge) (r + 1) (n + 1) c′ o′ (omega arith) in
+    ap (λ (w : Outcome Written (List ℕ)). cond (eqb (s .answer .error) 0) w (outcome (written (s .answer .error) n c′ (s .answer .gauge)) (s .lent))) ih
+    ∙ same-turn (λ to g′ k′. byteByByte l to g′ (r + 1) (n + 1) k′ bs) n c _ _ _ _ _ _ _ _ (one .0) (one .1) (one .2) (one .3)
 
 pub write-by-bytes : WriteByBytes
 unfolding write
 write-by-bytes l image g r bytes hi h e =
     let c = called l (length image) g r (length bytes) e in
-    rw e (by-bytes l bytes h image g r 0 (record { fits = c .fitting; valid = c .sound; bytes = hi }) (c .span))
+    rw e (by-bytes l bytes h image g r 0 0 (record { fits = c .fitting; valid = c .sound; bytes = hi }) (c .span))

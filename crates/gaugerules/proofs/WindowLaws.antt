@@ -6,6 +6,7 @@ use lib.Dec.{eqb}
 use lib.ListN.{length, length-set}
 use borrow.Author.Tests.{eqb-true}
 use Rattle.flashrules.specs.Outcome.{Outcome, outcome}
+use Rattle.flashrules.specs.Choice.{differing}
 use Rattle.flashrules.specs.Layout.{infoClass}
 use Rattle.flashrules.specs.Lookup.{blockSize}
 use Rattle.flashrules.specs.declared.layout.Layout.{Layout}
@@ -14,7 +15,7 @@ use Rattle.flashrules.proofs.Picks.{on-cond}
 use Rattle.gaugerules.specs.State.{isFullAccess, nonePending}
 use Rattle.gaugerules.specs.Register.{registerOf}
 use Rattle.gaugerules.specs.Word.{word, statusWord, sealWord, resetWord, keys, isKey, keyWanted, keyWord, obey}
-use Rattle.gaugerules.specs.Transfer.{accept, loadBlock, committed, commitError}
+use Rattle.gaugerules.specs.Transfer.{byteWritten, loadBlock, committed, commitError}
 use Rattle.gaugerules.specs.Write.{writeAt, writeByte, writeBytes, callError, write}
 use Rattle.gaugerules.specs.Laws.{WriteLength}
 use Rattle.gaugerules.specs.declared.state.Gauge.{Gauge}
@@ -26,7 +27,7 @@ use Rattle.gaugerules.proofs.ByteCases.{on-class, on-control, on-edit, 
 use Rattle.gaugerules.proofs.RunLaws.{called}
 use Rattle.gaugerules.proofs.ValidLaws.{valid-parts}
 
-abbrev Whole : Gauge → Type 0
+abbrev pub Whole : Gauge → Type 0
 Whole g = length (g .window) ≡ blockSize
 
 module _ (l : Layout) (image : List ℕ) (g : Gauge) (byte : ℕ) (h : Whole g) where
@@ -49,11 +50,11 @@ module _ (l : Layout) (image : List ℕ) (g : Gauge) (byte : ℕ) (h : Whole g) 
   abbrev Both : Outcome ByteWritten (List ℕ) → Type 0
   Both s = ToWhole (s .answer) × (length (s .lent) ≡ length image)
 
-  commit-whole : commitError l image g byte ≡ 0 → Both (outcome (accept g) (committed l image g))
+  commit-whole : commitError l image g byte ≡ 0 → let to = committed l image g in Both (outcome (byteWritten 0 (differing image to) g) to)
   unfolding committed outcome
   commit-whole e = let c = committable l image g byte e in rw (c .loaded) (h, store-length l image (c .class) (c .block) (g .window) h)
 
-  byte-whole : (k : Register) → Both (writeAt k l image g byte)
+  pub byte-whole : (k : Register) → Both (writeAt k l image g byte)
   unfolding writeAt outcome
   byte-whole Register.ControlLow = (h, refl)
   byte-whole Register.ControlHigh = (word-whole (word (g .low) byte), refl)
@@ -64,19 +65,19 @@ module _ (l : Layout) (image : List ℕ) (g : Gauge) (byte : ℕ) (h : Whole g) 
   byte-whole Register.BlockDataControl = (on-control ToWhole g byte h (λ _ _. refl) h, refl)
   byte-whole Register.Other = (h, refl)
 
-run-length : (l : Layout) (bs image : List ℕ) (g : Gauge) (r n : ℕ) → Whole g → length (writeBytes l image g r n bs .lent) ≡ length image
+run-length : (l : Layout) (bs image : List ℕ) (g : Gauge) (r n c : ℕ) → Whole g → length (writeBytes l image g r n c bs .lent) ≡ length image
 unfolding writeBytes writeByte outcome
-run-length l [] image g r n h = refl
-run-length l (b ∷ bs) image g r n h =
+run-length l [] image g r n c h = refl
+run-length l (b ∷ bs) image g r n c h =
     let s = writeByte l image g r b in
     let k = byte-whole l image g b h (registerOf r) in
     on-cond (λ (w : Outcome Written (List ℕ)). length (w .lent) ≡ length image) (eqb (s .answer .error) 0) _ _
-    (λ _. run-length l bs (s .lent) (s .answer .gauge) (r + 1) (n + 1) (k .0) ∙ k .1) (λ _. k .1)
+    (λ _. run-length l bs (s .lent) (s .answer .gauge) (r + 1) (n + 1) (c + s .answer .changed) (k .0) ∙ k .1) (λ _. k .1)
 
 pub write-length : WriteLength
 unfolding write outcome
 write-length l image g r bytes =
     let e = callError l (length image) g r (length bytes) in
     on-cond (λ (w : Outcome Written (List ℕ)). length (w .lent) ≡ length image) (eqb e 0) _ _
-    (λ p. run-length l bytes image g r 0 (valid-parts l g (called l (length image) g r (length bytes) (eqb-true _ _ p) .sound) .range .window))
+    (λ p. run-length l bytes image g r 0 0 (valid-parts l g (called l (length image) g r (length bytes) (eqb-true _ _ p) .sound) .range .window))
     (λ _. refl)

@@ -11,6 +11,7 @@ use lib.ListN.{length, take, drop}
 use lib.Seq.{sets}
 use Rattle.checksum.specs.Checksum.{checksum}
 use Rattle.flashrules.specs.Outcome.{outcome}
+use Rattle.flashrules.specs.Choice.{differing}
 use Rattle.flashrules.specs.Lookup.{findBlock}
 use Rattle.flashrules.specs.Image.{maxByte, Bytes, blockBytes, asLoaded}
 use Rattle.flashrules.specs.declared.layout.Layout.{Layout}
@@ -41,7 +42,7 @@ blockEdited l image g i b o bs =
 -- ---- general access
 
 pub record FlashSelects (l : Layout) (image : List ℕ) (g : Gauge) : Type 0 where
-  pub accepted : write l image g blockDataControl (controlFlash ∷ []) ≡ outcome (written 0 1 (flashSelected g)) image
+  pub accepted : write l image g blockDataControl (controlFlash ∷ []) ≡ outcome (written 0 1 0 (flashSelected g)) image
   pub good : Good l image (flashSelected g)
   pub access : generalAccess (flashSelected g) ≡ true
 
@@ -53,7 +54,8 @@ SelectFlash =
 -- ---- a block is loaded, and read
 
 pub record BlockSelects (l : Layout) (image : List ℕ) (g : Gauge) (i b : ℕ) : Type 0 where
-  pub accepted : write l image g dataFlashClass (i ∷ b ∷ []) ≡ outcome (written 0 2 (blockSelected l image g i b)) image
+  pub accepted : write l image g dataFlashClass (i ∷ b ∷ [])
+      ≡ outcome (written 0 2 0 (blockSelected l image g i b)) image
   pub good : Good l image (blockSelected l image g i b)
   pub access : generalAccess (blockSelected l image g i b) ≡ true
 
@@ -75,13 +77,15 @@ ReadBlock =
 -- ---- a block is written
 
 -- class and block, the bytes, the checksum: three writes, each accepted whole, and the image that
--- they leave. Mode and general access stay, so that the next block can follow
+-- they leave, which the third alone changes. Mode and general access stay, so that the next block
+-- can follow
 pub record BlockWrites (l : Layout) (image : List ℕ) (g : Gauge) (i b o : ℕ) (bs to : List ℕ) : Type 0 where
-  pub select : write l image g dataFlashClass (i ∷ b ∷ []) ≡ outcome (written 0 2 (blockSelected l image g i b)) image
+  pub select : write l image g dataFlashClass (i ∷ b ∷ [])
+      ≡ outcome (written 0 2 0 (blockSelected l image g i b)) image
   pub edit : write l image (blockSelected l image g i b) (blockData + o) bs
-      ≡ outcome (written 0 (length bs) (blockEdited l image g i b o bs)) image
+      ≡ outcome (written 0 (length bs) 0 (blockEdited l image g i b o bs)) image
   pub commit : let h = blockEdited l image g i b o bs in
-      write l image h blockDataChecksum (checksum (h .window) ∷ []) ≡ outcome (written 0 1 h) to
+      write l image h blockDataChecksum (checksum (h .window) ∷ []) ≡ outcome (written 0 1 (differing image to) h) to
   pub mode : blockEdited l image g i b o bs .mode ≡ g .mode
   pub access : generalAccess (blockEdited l image g i b o bs) ≡ true
   pub good : Good l to (blockEdited l image g i b o bs)

@@ -11,17 +11,17 @@ use lib.ListN.{length, getD, take, drop}
 use Rattle.checksum.specs.Checksum.{checksum}
 use Rattle.flashrules.specs.Refusal.{firstError}
 use Rattle.flashrules.specs.Outcome.{Outcome, outcome}
-use Rattle.flashrules.specs.Choice.{and}
+use Rattle.flashrules.specs.Choice.{and, differing}
 use Rattle.flashrules.specs.Answer.{lengthOf}
 use Rattle.flashrules.specs.Layout.{infoClass, fits}
-use Rattle.flashrules.specs.Lookup.{findBlock}
+use Rattle.flashrules.specs.Lookup.{blockSize, findBlock}
 use Rattle.flashrules.specs.Image.{maxByte, Bytes, blockBytes, asLoaded}
 use Rattle.flashrules.specs.Laws.{Within, SameClasses}
 use Rattle.flashrules.specs.declared.layout.Layout.{Layout}
 use Rattle.gaugerules.specs.State.{infoBlocks, generalAccess, loadedOf, noneLoaded, powerOn, load}
 use Rattle.gaugerules.specs.Valid.{valid}
 use Rattle.gaugerules.specs.Register.{dataFlashBlock, blockDataChecksum}
-use Rattle.gaugerules.specs.Transfer.{accept, isProtected}
+use Rattle.gaugerules.specs.Transfer.{byteWritten, accept, refuse, isProtected}
 use Rattle.gaugerules.specs.Write.{written, writeByte, writeBytes, callError, write}
 use Rattle.gaugerules.specs.Read.{readBytes, read}
 use Rattle.gaugerules.specs.Table.{byteTests}
@@ -66,13 +66,13 @@ RefusedByte =
     (l : Layout) (image : List ℕ) (g : Gauge) (r byte : ℕ) → let s = writeByte l image g r byte in
     (s .answer .error ≡ 0 → ⊥) → (s .answer .gauge ≡ g) × (s .lent ≡ image)
 
--- past the checks of the call, the bytes that were accepted, sent alone, are all accepted and leave
--- the same gauge and image
+-- past the checks of the call, the bytes that were accepted, sent alone, are all accepted, answer
+-- the same change, and leave the same gauge and image
 abbrev pub BytesStand : Type 0
 BytesStand =
-    (l : Layout) (image : List ℕ) (g : Gauge) (r : ℕ) (bytes : List ℕ) → let w = writeBytes l image g r 0 bytes in
-    writeBytes l image g r 0 (take (w .answer .accepted) bytes)
-    ≡ outcome (written 0 (w .answer .accepted) (w .answer .gauge)) (w .lent)
+    (l : Layout) (image : List ℕ) (g : Gauge) (r : ℕ) (bytes : List ℕ) → let w = writeBytes l image g r 0 0 bytes in
+    writeBytes l image g r 0 0 (take (w .answer .accepted) bytes)
+    ≡ outcome (written 0 (w .answer .accepted) (w .answer .changed) (w .answer .gauge)) (w .lent)
 
 abbrev pub ReadRefused : Type 0
 ReadRefused =
@@ -125,13 +125,14 @@ pub record Committed (l : Layout) (image : List ℕ) (g : Gauge) (image′ : Lis
   pub here : blockBytes l image′ class block ≡ take (lengthOf (findBlock l (length image) class block)) (g .window)
   pub outside : (j : ℕ) → (Within (findBlock l (length image) class block) j → ⊥) → getD image′ j 0 ≡ getD image j 0
 
--- a byte at 0x60: accepted exactly if it commits
+-- a byte at 0x60: accepted exactly if it commits. C-12: it answers "how many bytes of the image
+-- differ before and after"
 abbrev pub CommitRule : Type 0
 CommitRule =
     (l : Layout) (image : List ℕ) (g : Gauge) (byte : ℕ) → fits l (length image) ≡ true → valid l g ≡ true
     → let s = writeByte l image g blockDataChecksum byte in
-    (commits g byte ≡ true → (s .answer ≡ accept g) × Committed l image g (s .lent))
-    × (commits g byte ≡ false → (s .answer .error ≡ 0 → ⊥) × (s .answer .gauge ≡ g) × (s .lent ≡ image))
+    (commits g byte ≡ true → (s .answer ≡ byteWritten 0 (differing image (s .lent)) g) × Committed l image g (s .lent))
+    × (commits g byte ≡ false → let e = s .answer .error in (e ≡ 0 → ⊥) × (s ≡ outcome (refuse e g) image))
 
 -- a byte at any other register
 abbrev pub OnlyCommit : Type 0
@@ -150,24 +151,53 @@ WriteCommits =
     (l : Layout) (image : List ℕ) (g : Gauge) (r : ℕ) (bytes : List ℕ) → Bytes bytes → Good l image g
     → let w = write l image g r bytes in
     let before = blockDataChecksum - r in
-    let met = writeBytes l image g r 0 (take before bytes) .answer .gauge in
+    let met = writeBytes l image g r 0 0 (take before bytes) .answer .gauge in
     (Reached r (w .answer .accepted) → (commits met (getD bytes before 0) ≡ true) × Committed l image met (w .lent))
     × ((Reached r (w .answer .accepted) → ⊥) → w .lent ≡ image)
 
+-- ---- C-12: how many bytes a write changed
+
+-- "how many bytes of the image differ before and after": the byte, and the whole write, refused or
+-- not
+abbrev pub ByteChanged : Type 0
+ByteChanged =
+    (l : Layout) (image : List ℕ) (g : Gauge) (r byte : ℕ) → let s = writeByte l image g r byte in
+    s .answer .changed ≡ differing image (s .lent)
+
+abbrev pub WriteChanged : Type 0
+WriteChanged =
+    (l : Layout) (image : List ℕ) (g : Gauge) (r : ℕ) (bytes : List ℕ) → let w = write l image g r bytes in
+    w .answer .changed ≡ differing image (w .lent)
+
+-- "0 unless 0x60 committed"
+abbrev pub ChangedNone : Type 0
+ChangedNone =
+    (l : Layout) (image : List ℕ) (g : Gauge) (r : ℕ) (bytes : List ℕ) → Bytes image → Bytes bytes
+    → let w = write l image g r bytes in
+    (Reached r (w .answer .accepted) → ⊥) → w .answer .changed ≡ 0
+
+-- "and at most 32"
+abbrev pub ChangedMost : Type 0
+ChangedMost =
+    (l : Layout) (image : List ℕ) (g : Gauge) (r : ℕ) (bytes : List ℕ)
+    → write l image g r bytes .answer .changed ≤ blockSize
+
 -- ---- a write is its bytes, one by one
 
--- each byte is a write of its own, at the next register; n were accepted before
-unfoldable pub byteByByte : Layout → List ℕ → Gauge → ℕ → ℕ → List ℕ → Outcome Written (List ℕ)
-byteByByte l image g r n [] = outcome (written 0 n g) image
-byteByByte l image g r n (b ∷ bs) =
+-- each byte is a write of its own, at the next register; n were accepted before, and they changed c
+-- bytes of the image
+unfoldable pub byteByByte : Layout → List ℕ → Gauge → ℕ → ℕ → ℕ → List ℕ → Outcome Written (List ℕ)
+byteByByte l image g r n c [] = outcome (written 0 n c g) image
+byteByByte l image g r n c (b ∷ bs) =
     let w = write l image g r (b ∷ []) in
-    cond (eqb (w .answer .error) 0) (byteByByte l (w .lent) (w .answer .gauge) (r + 1) (n + 1) bs)
-    (outcome (written (w .answer .error) n (w .answer .gauge)) (w .lent))
+    let c′ = c + w .answer .changed in
+    cond (eqb (w .answer .error) 0) (byteByByte l (w .lent) (w .answer .gauge) (r + 1) (n + 1) c′ bs)
+    (outcome (written (w .answer .error) n c′ (w .answer .gauge)) (w .lent))
 
 abbrev pub WriteByBytes : Type 0
 WriteByBytes =
     (l : Layout) (image : List ℕ) (g : Gauge) (r : ℕ) (bytes : List ℕ) → Bytes image → Bytes bytes
-    → callError l (length image) g r (length bytes) ≡ 0 → write l image g r bytes ≡ byteByByte l image g r 0 bytes
+    → callError l (length image) g r (length bytes) ≡ 0 → write l image g r bytes ≡ byteByByte l image g r 0 0 bytes
 
 -- ---- layouts that mean the same are the same to every rule
 

@@ -31,14 +31,14 @@ pub data Call : Type 0 where
   toRead : ℕ → ℕ → List ℕ → Call
 
 -- 01: "Compared are the refusal number, the count taken and, for a read, the room afterwards, with
--- the bytes past the answer."
+-- the bytes past the answer." C-12: "Demand 3 includes the new number"
 pub data Reply : Type 0 where
-  ofWrite : ℕ → ℕ → Reply
+  ofWrite : ℕ → ℕ → ℕ → Reply
   ofRead : Outcome Reading (List ℕ) → Reply
 
 unfoldable pub reply : Layout → Device → Call → Reply
 reply l d (toWrite r bytes) =
-    let w = write l (d .image) (d .gauge) r bytes in ofWrite (w .answer .error) (w .answer .accepted)
+    let w = write l (d .image) (d .gauge) r bytes .answer in ofWrite (w .error) (w .accepted) (w .changed)
 reply l d (toRead r n buffer) = ofRead (read l (d .image) (d .gauge) r n buffer)
 
 -- 01: "every call gets the record and image that the call before it left, refused or not"

@@ -21,13 +21,18 @@ use Rattle.gaugerules.specs.State.{noneLoaded, withControl, withClass, w
 use Rattle.gaugerules.specs.declared.state.Gauge.{Gauge}
 use Rattle.gaugerules.specs.declared.answer.ByteWritten.{ByteWritten}
 
--- ---- what a byte did, where it leaves the image alone
+-- ---- what a byte did
 
+-- it changed so many bytes of the image
+abbrev pub byteWritten : ℕ → ℕ → Gauge → ByteWritten
+byteWritten e changed g = record { error = e; changed = changed; gauge = g }
+
+-- where it leaves the image alone
 abbrev pub accept : Gauge → ByteWritten
-accept g = record { error = 0; gauge = g }
+accept g = byteWritten 0 0 g
 
 abbrev pub refuse : ℕ → Gauge → ByteWritten
-refuse e g = record { error = e; gauge = g }
+refuse e g = byteWritten e 0 g
 
 -- ---- 0x3E
 

@@ -58,10 +58,10 @@ module _ (l : Layout) (image : List ℕ) (p : Parameter) (e : getError l (length
     (hc : Fits w8 (p .class)) (g : Gauge) (q : g ≡ powerOn bootOpen) (w : Written) (image₁ : List ℕ)
     (q₁ : outcome w image₁ ≡ write l image g blockDataControl (controlFlash ∷ [])) (w₂ : Written) (image₂ : List ℕ)
     (q₂ : outcome w₂ image₂ ≡ write l image₁ (w .gauge) dataFlashClass (p .class ∷ p .offset / blockSize ∷ [])) where
-  both : outcome w₂ image₂ ≡ outcome (written 0 2 (blockSelected l image openGauge (p .class) (p .offset / blockSize))) image
+  both : outcome w₂ image₂ ≡ outcome (written 0 2 0 (blockSelected l image openGauge (p .class) (p .offset / blockSize))) image
   both =
       let r = readable l (length image) p e in
-      let one : outcome w image₁ ≡ outcome (written 0 1 openGauge) image = q₁ ∙ rw q (opened l image (r .fitting) (bytes-of image h) .accepted) in
+      let one : outcome w image₁ ≡ outcome (written 0 1 0 openGauge) image = q₁ ∙ rw q (opened l image (r .fitting) (bytes-of image h) .accepted) in
       let next : w .gauge ≡ openGauge = ap (λ (x : Written). x .gauge) (answered w _ image₁ image one) in
       let same : image₁ ≡ image = left w _ image₁ image one in
       q₂ ∙ rw (same, next) (parameter-selects l image p r (bytes-of image h) (byte-of (p .class) hc) .accepted)

@@ -1,5 +1,6 @@
 -- Replies. Document 01, "The replay program": "Reply: number and count taken, or 00 and the bytes
--- read, or the number alone for a refused read."
+-- read, or the number alone for a refused read." C-12: "The replay's write line gains that byte",
+-- how many bytes of the image the write changed.
 use Prim.Native.Nat.{ℕ}
 use mathlib.Core.List.{List, [], _∷_, _++_}
 use lib.ListN.{take, replicate}
@@ -16,7 +17,7 @@ callOf (readFrame r n) = toRead r n (replicate registers 0)
 
 -- a refused read accepts 0, so its number is alone
 abbrev pub replyBytes : Reply → List ℕ
-replyBytes (ofWrite e n) = e ∷ n ∷ []
+replyBytes (ofWrite e n changed) = e ∷ n ∷ changed ∷ []
 replyBytes (ofRead s) = s .answer .error ∷ take (s .answer .accepted) (s .lent)
 
 -- "prints one line an answer"

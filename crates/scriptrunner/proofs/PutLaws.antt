@@ -39,11 +39,12 @@ module _ (n : ℕ) where
   low-low = let h : n % 256 % 16 ≡ n % 16 = omega arith in rw h
 
 module _ (l : Layout) (image : List ℕ) (g : Gauge) (r : ℕ) where
-  pub write-answered : (bytes buffer image′ buffer′ : List ℕ) (w : Written) (n at : ℕ) → outcome w image′ ≡ write l image g r bytes
-      → n ≡ w .accepted % 256 → buffer′ ≡ sets buffer at (hexLine (w .error ∷ n ∷ []))
-      → outcome (answered 0 (w .gauge) 5) (lend image′ buffer′) ≡ runFrame l (device g image) (writeFrame r bytes) buffer at
+  pub write-answered : (bytes buffer image′ buffer′ : List ℕ) (w : Written) (n c at : ℕ) → outcome w image′ ≡ write l image g r bytes
+      → n ≡ w .accepted % 256 → c ≡ w .changed % 256 → buffer′ ≡ sets buffer at (hexLine (w .error ∷ n ∷ c ∷ []))
+      → outcome (answered 0 (w .gauge) 7) (lend image′ buffer′) ≡ runFrame l (device g image) (writeFrame r bytes) buffer at
   unfolding runFrame replyText afterFrame reply afterCall outcome
-  write-answered bytes buffer image′ buffer′ w n at p q e = rw (← p, e, q, low-high (w .accepted), low-low (w .accepted))
+  write-answered bytes buffer image′ buffer′ w n c at p q t e =
+      rw (← p, e, q, t, low-high (w .accepted), low-low (w .accepted), low-high (w .changed), low-low (w .changed))
 
   pub read-few : (v v′ : List ℕ) (n : ℕ) (a : Reading) → outcome a v′ ≡ read l image g r n v → a .accepted ≤ length v
   unfolding outcome

@@ -56,12 +56,13 @@ pub(crate) fn run_write(
 {
     let written = write(layout, image, gauge, register, bytes);
     let accepted = low_byte(written.accepted);
-    encode_line(&[written.error, accepted], buffer, at);
+    let changed = low_byte(written.changed);
+    encode_line(&[written.error, accepted, changed], buffer, at);
     let after = written.gauge;
     Answered {
         error: 0,
         gauge: after,
-        length: 5,
+        length: 7,
     }
 }
 

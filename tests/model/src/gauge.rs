@@ -1,5 +1,6 @@
 //! 01, "Transactions": a write byte by byte, the control words, a read.
 
+use crate::changed::count_differing;
 use crate::error::Error;
 use crate::layout::{checksum, Layout, BLOCK_LENGTH, INFO_CLASS, KEY_CLASS};
 use crate::record::{Boot, Loaded, Mode, Record, BLOCK_A};
@@ -16,6 +17,9 @@ const RESET_WORD: u16 = 0x0041;
 pub struct Written {
     pub error: Option<Error>,
     pub accepted: usize,
+    /// C-12: "how many bytes of the image differ before and after, and every write answer carries
+    /// it as a third number: 0 unless 0x60 committed, and at most 32".
+    pub changed: usize,
 }
 
 /// A layout, an image and a record, as a caller would lend them.
@@ -31,17 +35,26 @@ impl Gauge {
         Gauge { layout, image, record: Record::power_on(boot) }
     }
 
-    /// "A write takes its bytes one by one at r, r+1 and so on. The first refused byte ends it."
+    /// The answer of a write. No other byte of it than the one at 0x60 changes the image, and that
+    /// one stands if a later one is refused; so the images before and after the whole write are
+    /// those before and after its commit.
     pub fn write(&mut self, register: u8, bytes: &[u8]) -> Written {
+        let before = self.image.clone();
+        let (error, accepted) = self.take(register, bytes);
+        Written { error, accepted, changed: count_differing(&before, &self.image) }
+    }
+
+    /// "A write takes its bytes one by one at r, r+1 and so on. The first refused byte ends it."
+    fn take(&mut self, register: u8, bytes: &[u8]) -> (Option<Error>, usize) {
         if let Err(error) = self.judge(register, bytes.len()) {
-            return Written { error: Some(error), accepted: 0 };
+            return (Some(error), 0);
         }
         for (i, &byte) in bytes.iter().enumerate() {
             if let Err(error) = self.write_byte(usize::from(register) + i, byte) {
-                return Written { error: Some(error), accepted: i };
+                return (Some(error), i);
             }
         }
-        Written { error: None, accepted: bytes.len() }
+        (None, bytes.len())
     }
 
     /// Puts the answer of a read at the start of a lent buffer, or leaves the buffer untouched.
@@ -55,6 +68,15 @@ impl Gauge {
             *byte = self.read_byte(usize::from(register) + i);
         }
         Ok(())
+    }
+
+    /// The loaded block's bytes in the image; none if no block is loaded.
+    pub fn loaded_bytes(&self) -> &[u8] {
+        let find = |loaded: Loaded| self.layout.block(self.image.len(), loaded.class, loaded.block);
+        match self.record.loaded.map(find) {
+            Some(Ok(place)) => &self.image[place],
+            _ => &[],
+        }
     }
 
     /// "Order for a transaction: 10, 15, 1, 14, then byte by byte". The 14 is a read's own.
@@ -219,18 +241,23 @@ fn as_sent(first: u16, second: u16) -> [u8; 4] {
 }
 
 #[cfg(test)]
-mod tests {
+pub mod tests {
     use super::*;
     use crate::layout::Class;
 
-    const DONE_ONE: Written = Written { error: None, accepted: 1 };
+    const DONE_ONE: Written = done(1);
+    const DONE_TWO: Written = done(2);
 
-    fn refused(error: Error, accepted: usize) -> Written {
-        Written { error: Some(error), accepted }
+    pub const fn done(accepted: usize) -> Written {
+        Written { error: None, accepted, changed: 0 }
+    }
+
+    pub const fn refused(error: Error, accepted: usize) -> Written {
+        Written { error: Some(error), accepted, changed: 0 }
     }
 
     /// Class 48 of 33 bytes (0, 1, .. 32), the manufacturer blocks, and document 01's unseal key.
-    fn gauge(boot: Boot) -> Gauge {
+    pub fn gauge(boot: Boot) -> Gauge {
         let classes = [(48, 33), (58, 96), (112, 28)].map(|(id, length)| Class { id, length });
         let mut image: Vec<u8> = (0..33).collect();
         image.extend([0xAA; 32]);
@@ -241,9 +268,9 @@ mod tests {
         Gauge::power_on(Layout { classes: classes.to_vec() }, image, boot)
     }
 
-    fn send(gauge: &mut Gauge, words: &[u16]) {
+    pub fn send(gauge: &mut Gauge, words: &[u16]) {
         for word in words {
-            assert_eq!(gauge.write(0, &word.to_le_bytes()), Written { error: None, accepted: 2 });
+            assert_eq!(gauge.write(0, &word.to_le_bytes()), DONE_TWO);
         }
     }
 
@@ -254,10 +281,10 @@ mod tests {
     }
 
     /// Full access, BlockDataControl 0, that block loaded.
-    fn with_block(class: u8, block: u8) -> Gauge {
+    pub fn with_block(class: u8, block: u8) -> Gauge {
         let mut gauge = gauge(Boot::Open);
         assert_eq!(gauge.write(0x61, &[0]), DONE_ONE);
-        assert_eq!(gauge.write(0x3E, &[class, block]), Written { error: None, accepted: 2 });
+        assert_eq!(gauge.write(0x3E, &[class, block]), DONE_TWO);
         gauge
     }
 
@@ -322,9 +349,10 @@ mod tests {
         assert_eq!(gauge.write(0x3F, &[1]), DONE_ONE);
         assert_eq!(gauge.write(0x40, &[0]), refused(Error::BlockA, 0));
         assert_eq!(gauge.write(0x60, &[read(&gauge, 0x60)]), refused(Error::BlockA, 0));
-        assert_eq!(gauge.write(0x3F, &[2, 0xBC]), Written { error: None, accepted: 2 });
+        assert_eq!(gauge.write(0x3F, &[2, 0xBC]), DONE_TWO);
         let sum = read(&gauge, 0x60);
-        assert_eq!(gauge.write(0x60, &[sum, 0]), refused(Error::Sealed, 1));
+        let stored = Written { changed: 1, ..refused(Error::Sealed, 1) };
+        assert_eq!(gauge.write(0x60, &[sum, 0]), stored);
         assert_eq!(gauge.image[33 + 32..33 + 34], [0xBC, 0xBB]);
     }
 
@@ -343,7 +371,9 @@ mod tests {
         let mut bytes = vec![48, 0];
         bytes.extend([3; 32]);
         bytes.extend([255 - 96, 2]);
-        assert_eq!(gauge.write(0x3E, &bytes), refused(Error::Control, 35));
+        // byte 3 was a 3 before
+        let stored = Written { changed: 31, ..refused(Error::Control, 35) };
+        assert_eq!(gauge.write(0x3E, &bytes), stored);
         assert_eq!(gauge.image[..33], [[3; 32].as_slice(), &[32]].concat());
         *bytes.last_mut().unwrap() = 1;
         bytes.push(0);

@@ -1,8 +1,10 @@
 //! An independent model of document 01, "Build description and exact rules": layout, image file,
-//! gauge, parameters and replay program; and of change request C-11, the list of what differs
-//! between two images. It is written from these papers alone and puts simplicity first: each call
-//! judges everything anew. Comments quote the sentence that a rule follows.
+//! gauge, parameters and replay program; and of change requests C-11, the list of what differs
+//! between two images, and C-12, how many bytes a commit changed. It is written from these papers
+//! alone and puts simplicity first: each call judges everything anew. Comments quote the sentence
+//! that a rule follows.
 
+pub mod changed;
 pub mod delta;
 pub mod error;
 pub mod gauge;

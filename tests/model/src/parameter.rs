@@ -1,7 +1,7 @@
 //! 01, "The parameter desk": typed settings with ranges, read from an image and stored into it.
 
 use crate::error::Error;
-use crate::gauge::{Gauge, Written};
+use crate::gauge::Gauge;
 use crate::layout::{checksum, Layout, BLOCK_LENGTH};
 use crate::record::Boot;
 use std::num::TryFromIntError;
@@ -176,7 +176,8 @@ fn written_by_gauge(layout: &Layout, image: &[u8], parameter: &Parameter, bytes:
 }
 
 fn accepted(gauge: &mut Gauge, register: u8, bytes: &[u8]) {
-    assert_eq!(gauge.write(register, bytes), Written { error: None, accepted: bytes.len() });
+    let written = gauge.write(register, bytes);
+    assert_eq!((written.error, written.accepted), (None, bytes.len()));
 }
 
 #[cfg(test)]

@@ -39,19 +39,20 @@ pub fn run(image: Option<&[u8]>, script: Option<&[u8]>, output: &mut impl Write)
 mod tests {
     use super::*;
 
-    /// Script and whole output of document 01's session.
+    /// Script and whole output of document 01's session. C-12: "the session's tenth line reads
+    /// 000101 and its other write lines end in 00".
     const SESSION: [(&str, &str); 12] = [
-        ("013E30", "0300"),
-        ("01001404", "0002"),
-        ("01007236", "0002"),
-        ("016100", "0001"),
-        ("013E3000", "0002"),
+        ("013E30", "030000"),
+        ("01001404", "000200"),
+        ("01007236", "000200"),
+        ("016100", "000100"),
+        ("013E3000", "000200"),
         ("004006", "00000000000001"),
         ("006001", "00FE"),
-        ("014502", "0001"),
-        ("0160FE", "0800"),
-        ("0160FD", "0001"),
-        ("01000000", "0002"),
+        ("014502", "000100"),
+        ("0160FE", "080000"),
+        ("0160FD", "000101"),
+        ("01000000", "000200"),
         ("000002", "000040"),
     ];
 
@@ -100,8 +101,16 @@ mod tests {
     }
 
     #[test]
+    fn a_write_line_ends_in_the_count_of_changed_bytes() {
+        // block B while sealed: all its bytes, their checksum, and 0x61, which is refused
+        let script = format!("013F02\n0140{}DF00\n0160DF\n", "01".repeat(32));
+        let output = replay(Some(&session_image()), Some(script.as_bytes()));
+        assert_eq!(output, b"000100\n032120\n000100\n");
+    }
+
+    #[test]
     fn writes_without_data_and_refused_reads() {
         let output = replay(Some(&session_image()), Some(b"0140\n007F01\n007F02\n000000\n"));
-        assert_eq!(output, b"0100\n0000\n01\n01\n");
+        assert_eq!(output, b"010000\n0000\n01\n01\n");
     }
 }

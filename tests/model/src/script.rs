@@ -37,13 +37,14 @@ pub fn first_bad_line(text: &[u8]) -> Option<usize> {
 }
 
 /// Runs one frame and appends its reply: "number and count taken, or 00 and the bytes read, or the
-/// number alone for a refused read".
+/// number alone for a refused read". C-12: "The replay's write line gains that byte".
 pub fn answer(gauge: &mut Gauge, frame: Frame, reply: &mut Vec<u8>) {
     match frame {
         Frame::Write { register, bytes } => {
             let written = gauge.write(register, bytes);
             push_byte(reply, written.error.map_or(0, Error::number));
             push_byte(reply, written.accepted as u8);
+            push_byte(reply, written.changed as u8);
         }
         Frame::Read { register, count } => {
             let mut buffer = [0; 255];

@@ -117,6 +117,38 @@ impl<'a> Draft<'a> {
         }
     }
 
+    /// 32 bytes for a window: the loaded block's as they are stored, and past them those that the
+    /// window has; then some of them changed.
+    pub fn changed_window(&mut self) -> Vec<u8> {
+        let mut window = self.gauge.record.window.to_vec();
+        let stored = self.gauge.loaded_bytes();
+        window[..stored.len()].copy_from_slice(stored);
+        for place in self.any_places() {
+            let (bit, any) = (1 << self.random.below(8), self.random.between(1, 0xFF) as u8);
+            window[place] ^= self.random.pick(&[bit, any]);
+        }
+        window
+    }
+
+    /// Places in the window: none of them, one, some or all; an end of the loaded block, or only
+    /// what is past it.
+    fn any_places(&mut self) -> Vec<usize> {
+        let all = 0..BLOCK_LENGTH;
+        let one = self.random.below(BLOCK_LENGTH);
+        let length = self.loaded_length();
+        match self.random.below(9) {
+            0 => Vec::new(),
+            1 => vec![one],
+            2 => vec![0],
+            3 => vec![length.max(1) - 1],
+            4 => (length..BLOCK_LENGTH).collect(),
+            5 => (one..BLOCK_LENGTH).collect(),
+            6 => all.filter(|_| self.random.chance(50)).collect(),
+            7 => all.filter(|&place| place != one).collect(),
+            _ => all.collect(),
+        }
+    }
+
     /// A byte for 0x60 with this window: mostly its checksum.
     pub fn any_checksum(&mut self, window: &[u8]) -> u8 {
         let right = checksum(window);
@@ -130,10 +162,7 @@ impl<'a> Draft<'a> {
 
     /// How many of the window's bytes belong to the loaded block, 0 if none is loaded.
     pub fn loaded_length(&self) -> usize {
-        let loaded = self.gauge.record.loaded;
-        let place =
-            loaded.map(|at| self.gauge.layout.block(self.gauge.image.len(), at.class, at.block));
-        place.and_then(|place| place.ok()).map_or(0, |place| place.len())
+        self.gauge.loaded_bytes().len()
     }
 
     /// Unseals the gauge if it is sealed, and sets BlockDataControl.

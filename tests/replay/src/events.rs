@@ -3,38 +3,77 @@
 use crate::cases::Case;
 use model::error::Error;
 use model::gauge::Gauge;
-use model::record::{Boot, Mode};
+use model::layout::{BLOCK_LENGTH, INFO_CLASS};
+use model::record::{Boot, Loaded, Mode};
 use model::script::{frame, Frame, MAX_FRAME};
 use model::{imagefile, script, text};
+use std::ops::Range;
+use std::sync::LazyLock;
 
-/// What is counted: refusals 1 to 9 first, those of spans and bytes, under their own numbers less
-/// one.
-pub const EVENTS: &[&str] = &[
-    "refusal 1",
-    "refusal 2",
-    "refusal 3",
-    "refusal 4",
-    "refusal 5",
-    "refusal 6",
-    "refusal 7",
-    "refusal 8",
-    "refusal 9",
-    "output 0A",
-    "gauge unsealed",
-    "full access reached",
-    "flash changed by a commit",
+const WINDOW: usize = 0x40;
+const COMMIT: usize = 0x60;
+const CONTROL: usize = 0x61;
+const BLOCK_B: Loaded = Loaded { class: INFO_CLASS, block: 1 };
+const BLOCK_C: Loaded = Loaded { class: INFO_CLASS, block: 2 };
+
+/// A line of a script as the model has answered it.
+struct Line<'a> {
+    /// The mode that it met.
+    mode: Mode,
+    /// The gauge that it left.
+    gauge: &'a Gauge,
+    error: Option<Error>,
+    /// The registers whose bytes a write has taken; none of a read.
+    taken: Range<usize>,
+    /// How many bytes of the image a write has changed; 0 of a read.
+    changed: usize,
+}
+
+/// An event, and whether a line meets it.
+type Event = (&'static str, fn(&Line) -> bool);
+
+/// The event of a whole case, before those of its lines.
+const REFUSED_FILE: &str = "output 0A";
+
+/// Refusals 1 to 9 are those of spans and bytes.
+const OF_LINES: &[Event] = &[
+    ("refusal 1", |line| line.is_refused(Error::Span)),
+    ("refusal 2", |line| line.is_refused(Error::ReadOnly)),
+    ("refusal 3", |line| line.is_refused(Error::Sealed)),
+    ("refusal 4", |line| line.is_refused(Error::NoClass)),
+    ("refusal 5", |line| line.is_refused(Error::NoBlock)),
+    ("refusal 6", |line| line.is_refused(Error::NotLoaded)),
+    ("refusal 7", |line| line.is_refused(Error::BlockA)),
+    ("refusal 8", |line| line.is_refused(Error::Checksum)),
+    ("refusal 9", |line| line.is_refused(Error::Control)),
+    ("gauge unsealed", |line| line.passes(Mode::Sealed, Mode::Unsealed)),
+    ("full access reached", |line| line.passes(Mode::Unsealed, Mode::FullAccess)),
+    ("flash changed by a commit", |line| line.changed > 0),
+    ("commit that changed 32 bytes", |line| line.changed == BLOCK_LENGTH),
+    ("commit that changed nothing", |line| line.commits() && line.changed == 0),
+    ("fewer bytes changed than written", |line| line.commits() && line.changed < line.own_bytes()),
+    ("commit of a short block, bytes past its end", |line| line.commits() && line.is_past_end()),
+    ("refusal 8, window edited", |line| line.is_refused(Error::Checksum) && line.is_edited()),
+    ("block B changed while sealed", |line| line.changes_while_sealed(BLOCK_B)),
+    ("block C changed while sealed", |line| line.changes_while_sealed(BLOCK_C)),
+    ("flash changed, then refusal 2", |line| line.changed > 0 && line.is_refused(Error::ReadOnly)),
+    ("flash changed, then refusal 3", |line| line.changed > 0 && line.is_refused(Error::Sealed)),
+    ("flash changed, then refusal 9", |line| line.changed > 0 && line.is_refused(Error::Control)),
+    ("flash changed, then 0x61 accepted", |line| line.changed > 0 && line.ends_at(CONTROL)),
 ];
-const REFUSED_FILE: usize = 9;
-const UNSEALED: usize = 10;
-const FULL_ACCESS: usize = 11;
-const CHANGE: usize = 12;
+
+pub static EVENTS: LazyLock<Vec<&str>> = LazyLock::new(|| {
+    let of_lines = OF_LINES.iter().map(|event| event.0);
+    [REFUSED_FILE].into_iter().chain(of_lines).collect()
+});
 
 /// Counts the events of one case and answers the number of its script lines.
 pub fn count(case: &Case, times: &mut [usize]) -> usize {
     let flash = case.image.text().and_then(|text| imagefile::read(text).ok());
     let script = case.script.text().filter(|text| script::is_valid(text));
+    let (refused_file, of_lines) = times.split_first_mut().expect("one count an event");
     let (Some((layout, image)), Some(script)) = (flash, script) else {
-        times[REFUSED_FILE] += 1;
+        *refused_file += 1;
         return 0;
     };
     let mut gauge = Gauge::power_on(layout, image, Boot::Sealed);
@@ -42,27 +81,72 @@ pub fn count(case: &Case, times: &mut [usize]) -> usize {
     let mut lines = 0;
     for line in text::lines(script).expect("a valid script") {
         lines += 1;
-        let error = match frame(line, &mut buffer).expect("a valid script") {
-            Frame::Write { register, bytes } => run_write(&mut gauge, register, bytes, times),
-            Frame::Read { register, count } => {
-                gauge.read(register, usize::from(count), &mut [0; 255]).err()
-            }
-        };
-        if let Some(error) = error {
-            times[usize::from(error.number()) - 1] += 1;
+        let line = run(&mut gauge, frame(line, &mut buffer).expect("a valid script"));
+        assert!(line.is_in_bounds(), "the model counts {} changed bytes", line.changed);
+        for ((_, is_met), count) in OF_LINES.iter().zip(&mut *of_lines) {
+            *count += usize::from(is_met(&line));
         }
     }
     lines
 }
 
-fn run_write(gauge: &mut Gauge, register: u8, bytes: &[u8], times: &mut [usize]) -> Option<Error> {
-    let (mode, image) = (gauge.record.mode, gauge.image.clone());
-    let written = gauge.write(register, bytes);
-    match (mode, gauge.record.mode) {
-        (Mode::Sealed, Mode::Unsealed) => times[UNSEALED] += 1,
-        (Mode::Unsealed, Mode::FullAccess) => times[FULL_ACCESS] += 1,
-        _ => {}
+fn run<'a>(gauge: &'a mut Gauge, frame: Frame) -> Line<'a> {
+    let mode = gauge.record.mode;
+    match frame {
+        Frame::Write { register, bytes } => {
+            let written = gauge.write(register, bytes);
+            let first = usize::from(register);
+            let taken = first..first + written.accepted;
+            Line { mode, gauge, error: written.error, taken, changed: written.changed }
+        }
+        Frame::Read { register, count } => {
+            let error = gauge.read(register, usize::from(count), &mut [0; 255]).err();
+            Line { mode, gauge, error, taken: 0..0, changed: 0 }
+        }
     }
-    times[CHANGE] += usize::from(gauge.image != image);
-    written.error
+}
+
+impl Line<'_> {
+    fn is_refused(&self, error: Error) -> bool {
+        self.error == Some(error)
+    }
+
+    fn passes(&self, from: Mode, to: Mode) -> bool {
+        (self.mode, self.gauge.record.mode) == (from, to)
+    }
+
+    fn commits(&self) -> bool {
+        self.taken.contains(&COMMIT)
+    }
+
+    /// Whether it is accepted with its last byte at this register.
+    fn ends_at(&self, register: usize) -> bool {
+        self.error.is_none() && self.taken.end == register + 1
+    }
+
+    /// C-12: "0 unless 0x60 committed, and at most 32"
+    fn is_in_bounds(&self) -> bool {
+        self.changed == 0 || self.commits() && self.changed <= BLOCK_LENGTH
+    }
+
+    /// How many of the loaded block's own bytes a write with a commit has written before that.
+    fn own_bytes(&self) -> usize {
+        let before = self.taken.start.saturating_sub(WINDOW);
+        self.gauge.loaded_bytes().len().saturating_sub(before)
+    }
+
+    fn changes_while_sealed(&self, block: Loaded) -> bool {
+        self.changed > 0 && self.mode == Mode::Sealed && self.gauge.record.loaded == Some(block)
+    }
+
+    /// Whether the window it left is not as the loaded block is stored.
+    fn is_edited(&self) -> bool {
+        !self.gauge.record.window.starts_with(self.gauge.loaded_bytes())
+    }
+
+    /// Whether the window it left has bytes other than 0 past the loaded block's end.
+    fn is_past_end(&self) -> bool {
+        let length = self.gauge.loaded_bytes().len();
+        self.gauge.record.window[length..].iter().any(|&byte| byte != 0)
+    }
 }

@@ -18,7 +18,7 @@ fn main() -> ExitCode {
         name: "compare-replay",
         kinds: &cases::KINDS,
         cases: 3_000,
-        events: events::EVENTS,
+        events: &events::EVENTS,
         floor: 200,
         lines: "script lines answered",
     };

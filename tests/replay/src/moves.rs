@@ -49,7 +49,7 @@ pub const INFO: &Moves = &[
     (4, commit),
     (6, edit_and_commit),
     (2, across),
-    (2, block_a),
+    (10, info_block),
     (4, look),
     (1, set_class),
 ];
@@ -256,16 +256,19 @@ fn commit(draft: &mut Draft) {
     draft.write(0x60, &[byte]);
 }
 
-/// A write that begins in the window and ends at 0x60, 0x61 or 0x62.
+/// A write that begins at the window's start or at its first byte to be changed, which is 0x60 if
+/// there is none, and ends at 0x60, 0x61 or 0x62.
 fn edit_and_commit(draft: &mut Draft) {
-    let place = draft.random.below(BLOCK_LENGTH);
-    let mut window = draft.gauge.record.window.to_vec();
-    for byte in &mut window[place..] {
-        *byte = draft.random.byte();
+    if draft.random.chance(30) {
+        // what the block has stored may come back with the commit
+        edit(draft);
     }
+    let window = draft.changed_window();
+    let alike = window.iter().zip(&draft.gauge.record.window).take_while(|(a, b)| a == b).count();
+    let place = draft.random.pick(&[0, alike]);
     let control = draft.random.pick(&[0, 1, 2, 0x80]);
     let sum = draft.any_checksum(&window);
-    let more = draft.random.pick(&[1, 1, 1, 2, 3]);
+    let more = draft.random.between(1, 3);
     let bytes = [&window[place..], &[sum, control, 0][..more]].concat();
     draft.write(0x40 + place as u8, &bytes);
     if draft.random.chance(30) {
@@ -295,21 +298,30 @@ fn ready_again(draft: &mut Draft) {
     }
 }
 
-/// Block A edited and committed, as the mode lets it: through 0x3F with BlockDataControl 1, or as
-/// class 58, block 0.
-fn block_a(draft: &mut Draft) {
+/// A manufacturer block edited and committed, as the mode lets it: through 0x3F with
+/// BlockDataControl 1, or as a block of class 58.
+fn info_block(draft: &mut Draft) {
+    let block = draft.random.pick(&[0, 1, 2]);
     if draft.gauge.record.general_access() {
-        draft.write(0x3E, &[INFO_CLASS, 0]);
+        draft.write(0x3E, &[INFO_CLASS, block]);
     } else {
-        draft.write(0x3F, &[1]);
+        draft.write(0x3F, &[block + 1]);
     }
-    edit(draft);
-    commit(draft);
+    change_loaded(draft);
     if draft.random.chance(20) {
         // what is loaded stays loaded when a key opens the gauge
         unseal(draft);
+        change_loaded(draft);
+    }
+}
+
+/// An edit and a commit, in two writes or in one.
+fn change_loaded(draft: &mut Draft) {
+    if draft.random.chance(50) {
         edit(draft);
         commit(draft);
+    } else {
+        edit_and_commit(draft);
     }
 }
 

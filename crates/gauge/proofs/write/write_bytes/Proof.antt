@@ -2,18 +2,21 @@
 -- the whole gives.
 use borrow.Author.Needs.{needs}
 use mathlib.Core.Path.{_≡_}
-use Prim.Native.Nat.{_+_, _-_, _≤_}
+use Prim.Native.Nat.{_+_, _-_, _*_, _≤_}
 use lib.ListN.{length, drop}
+use Rattle.flashrules.specs.Lookup.{blockSize}
 use Rattle.gaugerules.specs.Write.{writeBytes}
-use Rattle.gauge.proofs.WriteLaws.{run-end, run-more, run-stop}
+use Rattle.gauge.proofs.WriteLaws.{run-end, run-more, run-stop, window-stays, sum-most, sum-fits}
 use Rattle.gauge.proofs.write.write_bytes.Statement.{statement}
 use Rattle.gauge.proofs.write.write_bytes.Tie as tie
 
 abbrev Inv-loop : tie.InvT-loop
-Inv-loop layout image₀ register bytes next₀ at₀ i₀ image next at i = (writeBytes layout image next at i (drop i bytes) ≡ writeBytes layout image₀ next₀ register 0 bytes) × (length image ≡ length image₀) × (at ≡ register + i) × (i ≤ length bytes)
+Inv-loop layout image₀ register bytes next₀ at₀ i₀ changed₀ image next at i changed =
+    (writeBytes layout image next at i changed (drop i bytes) ≡ writeBytes layout image₀ next₀ register 0 0 bytes)
+    × (length image ≡ length image₀) × (at ≡ register + i) × (i ≤ length bytes) × (length (next .window) ≡ blockSize) × (changed ≤ blockSize * i)
 
 abbrev μ-loop : tie.MeasureT-loop
-μ-loop layout image₀ register bytes next₀ at₀ i₀ image next at i = length bytes - i
+μ-loop layout image₀ register bytes next₀ at₀ i₀ changed₀ image next at i changed = length bytes - i
 
 pub write-bytes-spec : {M : Type 1} → statement M
 write-bytes-spec =
@@ -24,10 +27,11 @@ write-bytes-spec =
     (λ c. search needs)
     (λ c. search needs)
     (λ c κs. search needs)
+    (λ c. search (needs, sum-fits))
     (λ c. search needs)
     (λ c. search needs)
     (λ c. search needs)
-    (λ c. (search run-more, search needs, search needs, search needs))
+    (λ c. (search run-more, search needs, search needs, search needs, search window-stays, search (needs, sum-most)))
     (λ c. search needs)
     (λ c. search run-stop)
     (λ c. search needs)

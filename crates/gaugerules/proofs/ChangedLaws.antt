@@ -27,7 +27,7 @@ use Rattle.gaugerules.proofs.ByteLaws.{only-commit, byte-changed, uncha
 use Rattle.gaugerules.proofs.RunLaws.{goes-on, stops, called}
 use Rattle.gaugerules.proofs.ValidLaws.{valid-parts}
 use Rattle.gaugerules.proofs.WindowLaws.{Whole, byte-whole}
-use Rattle.gaugerules.proofs.WholeWrite.{run-above, write-commits}
+use Rattle.gaugerules.proofs.WholeWrite.{run-above, write-unreached}
 
 -- ---- one byte
 
@@ -122,11 +122,5 @@ pub changed-most : ChangedMost
 changed-most l image g r bytes = let k = write-counts l image g r bytes in omega (arith, k .changed, k .few)
 
 pub changed-none : ChangedNone
-unfolding write outcome
-changed-none l image g r bytes hi h n =
-    on-test (eqb (callError l (length image) g r (length bytes)) 0)
-    (λ p.
-    let c = called l (length image) g r (length bytes) (eqb-true _ _ p) in
-    let kept = write-commits l image g r bytes h (record { fits = c .fitting; valid = c .sound; bytes = hi }) .1 n in
-    write-changed l image g r bytes ∙ ap (differing image) kept ∙ differing-self image)
-    (λ p. rw p)
+changed-none l image g r bytes n =
+    write-changed l image g r bytes ∙ ap (differing image) (write-unreached l image g r bytes n) ∙ differing-self image

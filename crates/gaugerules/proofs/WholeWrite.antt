@@ -5,16 +5,16 @@ use mathlib.Core.Path.{_≡_, refl, sym, ap, _∙_}
 use mathlib.Core.Bool.{true, false, cond}
 use mathlib.Core.List.{List, [], _∷_}
 use native.Mathlib.Omega.{arith}
-use lib.Dec.{eqb, leb}
+use lib.Dec.{eqb}
 use lib.ListN.{length, getD, take}
-use borrow.Author.Tests.{eqb-true, eqb-false, leb-true, leb-false}
+use borrow.Author.Tests.{eqb-true, eqb-false}
 use Rattle.flashrules.specs.Outcome.{Outcome, outcome}
 use Rattle.flashrules.specs.Image.{Bytes}
 use Rattle.flashrules.specs.declared.layout.Layout.{Layout}
 use Rattle.flashrules.proofs.Picks.{on-test}
 use Rattle.gaugerules.specs.Register.{blockDataChecksum, registers}
 use Rattle.gaugerules.specs.Write.{writeByte, written, writeBytes, callError, write}
-use Rattle.gaugerules.specs.Laws.{Good, commits, Committed, WriteCommits, byteByByte, WriteByBytes}
+use Rattle.gaugerules.specs.Laws.{Good, commits, Committed, Reached, WriteCommits, byteByByte, WriteByBytes}
 use Rattle.gaugerules.specs.declared.state.Gauge.{Gauge}
 use Rattle.gaugerules.specs.declared.answer.ByteWritten.{ByteWritten}
 use Rattle.gaugerules.specs.declared.answer.Written.{Written}
@@ -25,15 +25,29 @@ use Rattle.gaugerules.proofs.ValidLaws.{byte-good}
 
 -- ---- the commit of a run
 
--- above 0x60 nothing commits
-pub run-above : (l : Layout) (bs image : List ℕ) (g : Gauge) (r n c : ℕ) → blockDataChecksum < r → writeBytes l image g r n c bs .lent ≡ image
+-- a run in which no byte is accepted at 0x60 leaves the image
+run-unreached : (l : Layout) (bs image : List ℕ) (g : Gauge) (r n c : ℕ) → let w = writeBytes l image g r n c bs in
+    ((r ≤ blockDataChecksum) × (blockDataChecksum + n < r + w .answer .accepted) → ⊥) → w .lent ≡ image
 unfolding writeBytes outcome
-run-above l [] image g r n c h = refl
-run-above l (b ∷ bs) image g r n c h =
+run-unreached l [] image g r n c h = refl
+run-unreached l (b ∷ bs) image g r n c h =
     let s = writeByte l image g r b in
-    let kept = only-commit l image g r b (λ e. omega arith) in
+    let c′ = c + s .answer .changed in
     on-test (eqb (s .answer .error) 0)
-    (λ p. rw p (run-above l bs (s .lent) (s .answer .gauge) (r + 1) (n + 1) (c + s .answer .changed) (omega arith) ∙ kept)) (λ p. rw p kept)
+    (λ p.
+    let e = goes-on l image g r n c b bs (s .answer) (s .lent) refl p in
+    let least = accepted-least l bs (s .lent) (s .answer .gauge) (r + 1) (n + 1) c′ in
+    let far = rw e at h in
+    on-test (eqb r blockDataChecksum) (λ at. absurd (let z = eqb-true r blockDataChecksum at in far (omega arith, omega arith)))
+    (λ at.
+    rw e
+    (run-unreached l bs (s .lent) (s .answer .gauge) (r + 1) (n + 1) c′ (λ k. far (omega (arith, k .0), omega (arith, k .1)))
+    ∙ only-commit l image g r b (eqb-false r blockDataChecksum at))))
+    (λ p. rw (stops l image g r n c b bs (s .answer) (s .lent) refl p) (refused-byte l image g r b (eqb-false (s .answer .error) 0 p) .1))
+
+-- so does one that begins above it
+pub run-above : (l : Layout) (bs image : List ℕ) (g : Gauge) (r n c : ℕ) → blockDataChecksum < r → writeBytes l image g r n c bs .lent ≡ image
+run-above l bs image g r n c h = run-unreached l bs image g r n c (λ k. omega (arith, k .0))
 
 -- a byte at 0x60 that is accepted commits
 byte-commits : (l : Layout) (image : List ℕ) (g : Gauge) (r b : ℕ) → Good l image g → r ≡ blockDataChecksum → let s = writeByte l image g r b in
@@ -44,9 +58,8 @@ byte-commits l image g r b o at =
 
 -- what is claimed of a run over bs, before whose 0x60 m bytes come: the byte there is accepted if
 -- more than these are
-record Runs (l : Layout) (image : List ℕ) (g : Gauge) (n m : ℕ) (bs : List ℕ) (w : Outcome Written (List ℕ)) (met : Gauge) : Type 0 where
-  reached : n + m < w .answer .accepted → (commits met (getD bs m 0) ≡ true) × Committed l image met (w .lent)
-  not-reached : (n + m < w .answer .accepted → ⊥) → w .lent ≡ image
+abbrev Runs : Layout → List ℕ → ℕ → ℕ → List ℕ → Outcome Written (List ℕ) → Gauge → Type 0
+Runs l image n m bs w met = n + m < w .answer .accepted → (commits met (getD bs m 0) ≡ true) × Committed l image met (w .lent)
 
 module _ (l : Layout) (image : List ℕ) (g : Gauge) (r n c b : ℕ) (bs : List ℕ) (o : Good l image g) where
   abbrev s : Outcome ByteWritten (List ℕ)
@@ -59,49 +72,44 @@ module _ (l : Layout) (image : List ℕ) (g : Gauge) (r n c b : ℕ) (bs : List 
   c′ = c + s .answer .changed
 
   -- the byte is refused: it is the last, and n were accepted
-  ends : (m : ℕ) (met : Gauge) → eqb (s .answer .error) 0 ≡ false → Runs l image g n m (b ∷ bs) run met
+  ends : (m : ℕ) (met : Gauge) → eqb (s .answer .error) 0 ≡ false → Runs l image n m (b ∷ bs) run met
   unfolding outcome
-  ends m met p =
-      let same = refused-byte l image g r b (eqb-false (s .answer .error) 0 p) in
-      rw (stops l image g r n c b bs (s .answer) (s .lent) refl p)
-      (record { reached = λ k. absurd (omega arith); not-reached = λ _. same .1 })
+  ends m met p = rw (stops l image g r n c b bs (s .answer) (s .lent) refl p) (λ k. absurd (omega arith))
 
   -- 0x60 itself
-  here : r ≡ blockDataChecksum → Runs l image g n 0 (b ∷ bs) run g
+  here : r ≡ blockDataChecksum → Runs l image n 0 (b ∷ bs) run g
   unfolding outcome
   here at =
       on-test (eqb (s .answer .error) 0)
       (λ p.
       let to = s .lent in
       let above = run-above l bs to (s .answer .gauge) (r + 1) (n + 1) c′ (omega arith) in
-      let least = accepted-least l bs to (s .answer .gauge) (r + 1) (n + 1) c′ in
       let does = byte-commits l image g r b o at (eqb-true (s .answer .error) 0 p) in
-      rw (goes-on l image g r n c b bs (s .answer) to refl p)
-      (record { reached = λ _. (does .0, rw above (does .1)); not-reached = λ k. absurd (k (omega arith)) }))
+      rw (goes-on l image g r n c b bs (s .answer) to refl p) (λ _. (does .0, rw above (does .1))))
       (λ p. ends 0 g p)
 
   -- a byte before it leaves the image, and the run goes on
   before : (m : ℕ) → (r ≡ blockDataChecksum → ⊥) → eqb (s .answer .error) 0 ≡ true
       → let h = s .answer .gauge in
-      Runs l image h (n + 1) m bs (writeBytes l image h (r + 1) (n + 1) c′ bs) (writeBytes l image h (r + 1) (n + 1) c′ (take m bs) .answer .gauge)
-      → Runs l image g n (suc m) (b ∷ bs) run (writeBytes l image g r n c (b ∷ take m bs) .answer .gauge)
+      Runs l image (n + 1) m bs (writeBytes l image h (r + 1) (n + 1) c′ bs) (writeBytes l image h (r + 1) (n + 1) c′ (take m bs) .answer .gauge)
+      → Runs l image n (suc m) (b ∷ bs) run (writeBytes l image g r n c (b ∷ take m bs) .answer .gauge)
   unfolding outcome
   before m other p ih =
       let kept = only-commit l image g r b other in
       let is : s ≡ outcome (s .answer) image = ap (outcome (s .answer)) kept in
       rw (goes-on l image g r n c b bs (s .answer) image is p, goes-on l image g r n c b (take m bs) (s .answer) image is p)
-      (record { reached = λ k. ih .reached (omega arith); not-reached = λ k. ih .not-reached (λ z. k (omega arith)) })
+      (λ k. ih (omega arith))
 
-runs-none : (l : Layout) (image : List ℕ) (g : Gauge) (r n c m : ℕ) (met : Gauge) → Runs l image g n m [] (writeBytes l image g r n c []) met
+runs-none : (l : Layout) (image : List ℕ) (g : Gauge) (r n c m : ℕ) (met : Gauge) → Runs l image n m [] (writeBytes l image g r n c []) met
 unfolding writeBytes outcome
-runs-none l image g r n c m met = record { reached = λ k. absurd (omega arith); not-reached = λ _. refl }
+runs-none l image g r n c m met = λ k. absurd (omega arith)
 
 met-here : (l : Layout) (image : List ℕ) (g : Gauge) (r n c : ℕ) → writeBytes l image g r n c [] .answer .gauge ≡ g
 unfolding writeBytes outcome
 met-here l image g r n c = refl
 
 runs : (l : Layout) (m : ℕ) (bs : List ℕ) → Bytes bs → (image : List ℕ) (g : Gauge) (r n c : ℕ) → Good l image g → r + m ≡ blockDataChecksum
-    → Runs l image g n m bs (writeBytes l image g r n c bs) (writeBytes l image g r n c (take m bs) .answer .gauge)
+    → Runs l image n m bs (writeBytes l image g r n c bs) (writeBytes l image g r n c (take m bs) .answer .gauge)
 runs l m [] h image g r n c o e = runs-none l image g r n c m _
 runs l zero (b ∷ bs) h image g r n c o e = rw (met-here l image g r n c) (here l image g r n c b bs o (omega arith))
 runs l (suc m) (b ∷ bs) h image g r n c o e =
@@ -114,20 +122,28 @@ runs l (suc m) (b ∷ bs) h image g r n c o e =
     (runs l m bs (λ k. h (suc k)) image (t .answer .gauge) (r + 1) (n + 1) (c + t .answer .changed) o′ (omega arith)))
     (ends l image g r n c b bs o (suc m) _)
 
-pub write-commits : WriteCommits
+-- ---- the commit of a write
+
+pub write-unreached : (l : Layout) (image : List ℕ) (g : Gauge) (r : ℕ) (bytes : List ℕ) → let w = write l image g r bytes in
+    (Reached r (w .answer .accepted) → ⊥) → w .lent ≡ image
 unfolding write outcome
-write-commits l image g r bytes h o =
+write-unreached l image g r bytes =
     on-test (eqb (callError l (length image) g r (length bytes)) 0)
-    (λ p.
-    on-test (leb r blockDataChecksum)
-    (λ u.
-    let below = leb-true r blockDataChecksum u in
-    let c = runs l (blockDataChecksum - r) bytes h image g r 0 0 o (omega arith) in
-    rw p ((λ k. c .reached (omega (arith, k .1))), λ k. c .not-reached (λ z. k (below, omega arith))))
-    (λ u.
-    let above = leb-false r blockDataChecksum u in
-    rw p ((λ k. absurd (omega (arith, k .0))), λ _. run-above l bytes image g r 0 0 above)))
-    (λ p. rw p ((λ k. absurd (omega (arith, k .0, k .1))), λ _. refl))
+    (λ p. rw p (λ h. run-unreached l bytes image g r 0 0 (λ k. h (k .0, omega (arith, k .1)))))
+    (λ p. rw p (λ _. refl))
+
+write-reached : (l : Layout) (image : List ℕ) (g : Gauge) (r : ℕ) (bytes : List ℕ) → Bytes bytes → Good l image g
+    → let w = write l image g r bytes in
+    let met = writeBytes l image g r 0 0 (take (blockDataChecksum - r) bytes) .answer .gauge in
+    Reached r (w .answer .accepted) → (commits met (getD bytes (blockDataChecksum - r) 0) ≡ true) × Committed l image met (w .lent)
+unfolding write outcome
+write-reached l image g r bytes h o =
+    on-test (eqb (callError l (length image) g r (length bytes)) 0)
+    (λ p. rw p (λ k. runs l (blockDataChecksum - r) bytes h image g r 0 0 o (omega (arith, k .0)) (omega (arith, k .0, k .1))))
+    (λ p. rw p (λ k. absurd (omega (arith, k .0, k .1))))
+
+pub write-commits : WriteCommits
+write-commits l image g r bytes h o = (write-reached l image g r bytes h o, write-unreached l image g r bytes)
 
 -- ---- a write is its bytes, one by one
 

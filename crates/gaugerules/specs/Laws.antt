@@ -157,8 +157,8 @@ WriteCommits =
 
 -- ---- C-12: how many bytes a write changed
 
--- "how many bytes of the image differ before and after": the byte, and the whole write, refused or
--- not
+-- "how many bytes of the image differ before and after": of one byte, and of a whole write, refused
+-- or not
 abbrev pub ByteChanged : Type 0
 ByteChanged =
     (l : Layout) (image : List ℕ) (g : Gauge) (r byte : ℕ) → let s = writeByte l image g r byte in
@@ -172,8 +172,7 @@ WriteChanged =
 -- "0 unless 0x60 committed"
 abbrev pub ChangedNone : Type 0
 ChangedNone =
-    (l : Layout) (image : List ℕ) (g : Gauge) (r : ℕ) (bytes : List ℕ) → Bytes image → Bytes bytes
-    → let w = write l image g r bytes in
+    (l : Layout) (image : List ℕ) (g : Gauge) (r : ℕ) (bytes : List ℕ) → let w = write l image g r bytes in
     (Reached r (w .answer .accepted) → ⊥) → w .answer .changed ≡ 0
 
 -- "and at most 32"

@@ -15,7 +15,7 @@ use Rattle.flashrules.specs.Lookup.{findBlock}
 use Rattle.flashrules.specs.Image.{blockBytes, asLoaded}
 use Rattle.flashrules.specs.declared.layout.Layout.{Layout}
 use Rattle.flashrules.specs.declared.lookup.Lookup.{Lookup}
-use Rattle.flashrules.proofs.Picks.{and-first, and-rest, on-answer, on-cond}
+use Rattle.flashrules.proofs.Picks.{and-first, and-rest, on-test, on-answer, on-cond}
 use Rattle.gaugerules.specs.State.{controlInfo, infoBlocks, isSealed, generalAccess, withControl, withClass, withWindow, unload, load}
 use Rattle.gaugerules.specs.Transfer.{byteWritten, accept, refuse, setClass, loadBlock, selectsInfo, selectBlock, editError, edit, commitError, committed, setControl}
 use Rattle.gaugerules.specs.Write.{commit}
@@ -55,4 +55,4 @@ pub on-commit : (P : Outcome ByteWritten (List ℕ) → Type 0) (l : Layout) (im
     → P (outcome (refuse (commitError l image g byte) g) image) → P (commit l image g byte)
 unfolding commit
 on-commit P l image g byte accepted refused =
-    on-cond P (eqb (commitError l image g byte) 0) _ _ (λ e. accepted (eqb-true _ _ e)) (λ _. refused)
+    on-test (eqb (commitError l image g byte) 0) (λ e. rw e (accepted (eqb-true _ _ e))) (λ e. rw e refused)

@@ -116,7 +116,7 @@ stand l image g r n c (b ∷ bs) =
     (λ p.
     let same = refused-byte l image g r b (eqb-false (s .answer .error) 0 p) in
     let none : c + s .answer .changed ≡ c = omega (arith, unchanged l image g r b (same .1)) in
-    record { count = 0; accepted = rw p (omega arith); stands = rw (p, none, same .0, same .1) })
+    record { count = 0; accepted = rw p (omega arith); stands = rw (none, p, same .0, same .1) })
 
 -- no fewer than were accepted before
 pub accepted-least : (l : Layout) (bytes image : List ℕ) (g : Gauge) (r n c : ℕ) → n ≤ writeBytes l image g r n c bytes .answer .accepted

@@ -126,7 +126,7 @@ pub fn select_block(layout: Layout, image: &[u8], gauge: Gauge, byte: u8) -> Byt
 }
 
 // Block A of a sealed gauge.
-fn is_protected(gauge: Gauge) -> bool
+pub fn is_protected(gauge: Gauge) -> bool
     ensures { λ r. ⌜ r ≡ isProtected gauge ⌝ }
 {
     if gauge.mode == SEALED {

@@ -4,13 +4,32 @@ use crate::bench::bench_layout;
 use crate::text::show_text;
 use crate::text::show_verdict;
 use gaugestate::state::power_on;
+use scriptrules::session::REPORT_REPLIES;
 use scriptrunner::run::run;
+use scriptrunner::session::begin;
 ghost use mathlib.Core.Path.{_≡_};
-ghost use Prim.Native.Nat.{_<_};
+ghost use Prim.Native.Nat.{_≤_, _<_};
+ghost use lib.ListN.{length};
 ghost use Rattle.casetable.specs.Cases.{benchSize, session, caseAt};
 
 // Room for the replies of any case.
 const ROOM: usize = 1024;
+
+// Runs a script; how long its output is.
+fn replay(boot: u8, script: &[u8], image: &mut [u8], buffer: &mut [u8]) -> usize
+    ensures { λ r. ⌜ r ≤ length (now (buffer .entry)) ⌝ }
+{
+    let session = begin(power_on(boot));
+    let ran = run(
+        bench_layout(),
+        REPORT_REPLIES,
+        image,
+        session,
+        script,
+        buffer,
+    );
+    ran.length
+}
 
 // Runs a script and prints its output; whether it is this, and the image after it has this byte at
 // this index and is else as it was.
@@ -21,14 +40,7 @@ fn runs_so(first: u8, boot: u8, script: &[u8], output: &[u8], at: usize, byte: u
     let mut after = bench_image(first);
     after[at] = byte;
     let mut buffer = [0u8; ROOM];
-    let ran = run(
-        bench_layout(),
-        &mut image,
-        power_on(boot),
-        script,
-        &mut buffer,
-    );
-    let n = ran.length;
+    let n = replay(boot, script, &mut image, &mut buffer);
     show_text(&buffer[0..n]);
     if check::same(&buffer[0..n], output) {
         return check::same(&image, &after);

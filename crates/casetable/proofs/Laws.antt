@@ -1,4 +1,5 @@
--- Every case of the table passes, and the session comes out as document 01 prints it: computed.
+-- Every case of the table passes, the session comes out as document 01 prints it, and the causes of
+-- the example are those that C-13 names: computed.
 use mathlib.Core.Path.{refl}
 use Rattle.bytes.specs.Bytes.{indexOf, indexAfter}
 use Rattle.hextext.specs.Hex.{digit, value}
@@ -23,15 +24,22 @@ use Rattle.parameterrules.specs.Parameter.{valid as validParameter, inRange as 
 use Rattle.scriptrules.specs.Parser.{isDigit, isWhole, withDigit, withCharacter, feedByte, endError, parseScript}
 use Rattle.scriptrules.specs.Reply.{replyText, afterFrame}
 use Rattle.scriptrules.specs.Replay.{replay}
+use Rattle.causerules.specs.History.{byteSteps, writeSteps}
+use Rattle.causerules.specs.Cause.{reasonOf, causeText}
+use Rattle.scriptrules.specs.Why.{explanation, why}
 use Rattle.casetable.specs.Cases.{passes, every, CasesHold}
 use Rattle.casetable.specs.Session.{SessionHolds}
+use Rattle.casetable.specs.Why.{CausesHold}
 
-computed : CasesHold × SessionHolds
-unfolding passes every classes validLayout fits findClass findBlock blockExists blockBytes storeBlock asLoaded inRange valid registerOf isKey keyWord obey setClass loadBlock selectBlock isProtected editError edit commitError committed setControl outcome loadedOf commit writeAt writeByte writeBytes badSpan callError write readAt readByte readBytes readError read reply afterCall indexOf indexAfter digit value line blockLines serializeImage width addLine candidate holds parseImage isDigit isWhole withDigit withCharacter feedByte endError parseScript replyText afterFrame replay toBytes fromBytes fitsIn widthOf isSigned holdsInteger validParameter inParameterRange getError setError valueIn get set
-computed = (refl, refl)
+computed : CasesHold × SessionHolds × CausesHold
+unfolding passes every classes validLayout fits findClass findBlock blockExists blockBytes storeBlock asLoaded inRange valid registerOf isKey keyWord obey setClass loadBlock selectBlock isProtected editError edit commitError committed setControl outcome loadedOf commit writeAt writeByte writeBytes badSpan callError write readAt readByte readBytes readError read reply afterCall indexOf indexAfter digit value line blockLines serializeImage width addLine candidate holds parseImage isDigit isWhole withDigit withCharacter feedByte endError parseScript replyText afterFrame replay toBytes fromBytes fitsIn widthOf isSigned holdsInteger validParameter inParameterRange getError setError valueIn get set byteSteps writeSteps reasonOf causeText explanation why
+computed = (refl, refl, refl)
 
 pub cases-hold : CasesHold
 cases-hold = computed .0
 
 pub session-holds : SessionHolds
 session-holds = computed .1
+
+pub causes-hold : CausesHold
+causes-hold = computed .2

@@ -1,3 +1,4 @@
 pub mod Lines
 pub mod Cases
 pub mod Session
+pub mod Why

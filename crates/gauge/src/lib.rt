@@ -2,5 +2,5 @@
 // equation with a definition of crate `gaugerules`, where the rules are to be read. What a byte
 // does at a register is in crates `controlword` and `blocktransfer`.
 pub mod read;
-mod register;
+pub mod register;
 pub mod write;

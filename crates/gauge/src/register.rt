@@ -10,7 +10,7 @@ use gaugerules::register::Register;
 ghost use mathlib.Core.Path.{_≡_};
 ghost use Rattle.gaugerules.specs.Register.{registerOf};
 
-pub(crate) fn decode(register: usize) -> Register
+pub fn decode(register: usize) -> Register
     ensures { λ r. ⌜ r ≡ registerOf register ⌝ }
 {
     if register == CONTROL_LOW {

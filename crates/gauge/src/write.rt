@@ -54,8 +54,8 @@ fn take_word(layout: Layout, image: &[u8], gauge: Gauge, byte: u8) -> ByteWritte
     }
 }
 
-// One byte at a register.
-fn write_byte(
+// One byte at a register. It asks nothing of layout, image and gauge, which `call_error` looks at.
+pub fn write_byte(
     layout: Layout,
     image: &mut [u8],
     gauge: Gauge,
@@ -95,13 +95,7 @@ fn bad_span(register: u8, count: usize) -> bool
 }
 
 // Why no byte of a transaction is looked at, 0 where all may be; the image has so many bytes.
-pub(crate) fn call_error(
-    layout: Layout,
-    image_len: usize,
-    gauge: Gauge,
-    register: u8,
-    count: usize,
-) -> u8
+pub fn call_error(layout: Layout, image_len: usize, gauge: Gauge, register: u8, count: usize) -> u8
     ensures { λ r. ⌜ r ≡ callError layout «image_len» gauge register count ⌝ }
 {
     if fits(layout, image_len) {

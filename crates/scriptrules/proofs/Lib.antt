@@ -1,10 +1,13 @@
 pub mod AnswerLaws
 pub mod FrameLaws
 pub mod HostLaws
+pub mod LineLaws
 pub mod ParserLaws
 pub mod Laws
 pub mod ReplyLaws
 pub mod RunLaws
 pub mod ScriptLaws
+pub mod SessionLaws
 pub mod NoninterferenceLaws
 pub mod WholeLines
+pub mod WhyLaws

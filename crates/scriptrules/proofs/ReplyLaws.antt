@@ -1,7 +1,7 @@
--- Laws of replies: how long one is, that none is empty, and frames one behind the other.
-use Prim.Native.Nat.{ℕ, _+_, _≤_}
+-- Laws of replies: how long one is, and that none is empty.
+use Prim.Native.Nat.{ℕ, _≤_}
 use mathlib.Core.Path.{_≡_, refl, sym, ap}
-use mathlib.Core.List.{List, [], _∷_, _++_, append-assoc}
+use mathlib.Core.List.{List, [], _∷_}
 use native.Mathlib.Omega.{arith}
 use lib.Dec.{eqb}
 use lib.ListN.{length, replicate, length-append, length-take}
@@ -18,9 +18,9 @@ use Rattle.gaugerules.specs.declared.state.Gauge.{Gauge}
 use Rattle.gaugerules.proofs.ReadLaws.{read-free}
 use Rattle.scriptrules.specs.Frame.{Frame, writeFrame, readFrame}
 use Rattle.scriptrules.specs.Parser.{ParsedScript, script, noScript, parseScript}
-use Rattle.scriptrules.specs.Reply.{replyText, afterFrame, replies, afterFrames}
+use Rattle.scriptrules.specs.Reply.{replyText, maxReply, replies}
 use Rattle.scriptrules.specs.Replay.{poweredOn, outputOf, replay}
-use Rattle.scriptrules.specs.Laws.{ReplyLength, NothingPrinted}
+use Rattle.scriptrules.specs.Laws.{NothingPrinted}
 use Rattle.scriptrules.proofs.ScriptLaws.{accepted-script}
 
 -- ---- one reply
@@ -32,7 +32,7 @@ read-accepts l image g r n buffer =
     on-test (eqb (readError l (length image) g r n (length buffer)) 0)
     (λ e. rw e (read-free l (length image) g r n (length buffer) (eqb-true _ _ e) .1)) (λ e. rw e (omega arith))
 
-pub reply-length : ReplyLength
+pub reply-length : (l : Layout) (d : Device) (f : Frame) → length (replyText l d f) ≤ maxReply
 unfolding replyText reply
 reply-length l d (writeFrame r bytes) = omega arith
 reply-length l d (readFrame r n) =
@@ -42,12 +42,6 @@ reply-length l d (readFrame r n) =
 reply-some : (l : Layout) (d : Device) (f : Frame) → 1 ≤ length (replyText l d f)
 unfolding replyText
 reply-some l d f = rw line-length (omega arith)
-
--- ---- frames one behind the other
-
-pub replies-append : (l : Layout) (d : Device) (fs gs : List Frame) → replies l d (fs ++ gs) ≡ replies l d fs ++ replies l (afterFrames l d fs) gs
-replies-append l d [] gs = refl
-replies-append l d (f ∷ fs) gs = rw (replies-append l (afterFrame l d f) fs gs, append-assoc)
 
 -- ---- what prints nothing
 

@@ -3,7 +3,7 @@
 use Prim.Native.Nat.{ℕ, _+_, _≤_, _<_}
 use mathlib.Core.Path.{_≡_}
 use mathlib.Core.Logic.{_↔_, _⊎_}
-use mathlib.Core.Bool.{Bool, true, not}
+use mathlib.Core.Bool.{Bool, true, false, not}
 use mathlib.Core.List.{List, [], _∷_, _++_}
 use lib.ListN.{length, take, drop}
 use lib.Seq.{sets}
@@ -14,12 +14,13 @@ use Rattle.flashrules.specs.Image.{Bytes}
 use Rattle.flashrules.specs.declared.layout.Layout.{Layout}
 use Rattle.hextext.specs.Hex.{lineFeed}
 use Rattle.imagerules.specs.File.{imageFile, parseImage}
-use Rattle.gaugerules.specs.Script.{Device, device, unseals}
+use Rattle.gaugerules.specs.Script.{Device, unseals}
 use Rattle.gaugerules.specs.Noninterference.{Agree, Kept}
 use Rattle.scriptrules.specs.Frame.{Frame, frameBytes, maxFrame, lineOf, serializeScript, linesOf, frameOf}
 use Rattle.scriptrules.specs.Parser.{start, feed, endError, isFrame, script, parseScript}
-use Rattle.scriptrules.specs.Reply.{callOf, replyText, maxReply, afterFrame, replies, afterFrames}
+use Rattle.scriptrules.specs.Reply.{callOf, maxReply, afterFrame, replies, afterFrames}
 use Rattle.scriptrules.specs.Replay.{poweredOn, replay}
+use Rattle.scriptrules.specs.Session.{output, tooLong, countOn, Bench, bench, freshBench, frameText, outputs, afterLines}
 use Rattle.flashrules.specs.Outcome.{Outcome}
 use Rattle.scriptrules.specs.Run.{Lent, runLine, run}
 use Rattle.scriptrules.specs.Host.{Event, host, handleAll, arrived}
@@ -58,10 +59,31 @@ AcceptedLine = (line : List ℕ) (f : Frame) → ((isFrame line ≡ true) × (fr
 abbrev pub FeedChunks : Type 0
 FeedChunks = (s : Parser) (x y : List ℕ) → feed s (x ++ y) ≡ feed (feed s x) y
 
--- ---- replies
+-- ---- lines counted
 
-abbrev pub ReplyLength : Type 0
-ReplyLength = (l : Layout) (d : Device) (f : Frame) → length (replyText l d f) ≤ maxReply
+-- chunk by chunk as in the whole
+abbrev pub CountChunks : Type 0
+CountChunks =
+    (report k : ℕ) (x y : List ℕ)
+    → countOn report (countOn report k (length (linesOf x))) (length (linesOf y))
+    ≡ countOn report k (length (linesOf (x ++ y)))
+
+-- and the count tells whether there are too many
+abbrev pub CountTells : Type 0
+CountTells = (report lines : ℕ) → tooLong report (countOn report 0 lines) ≡ tooLong report lines
+
+-- ---- what a session puts out
+
+abbrev pub OutputLength : Type 0
+OutputLength = (l : Layout) (report : ℕ) (b : Bench) (f : Frame) → length (frameText l report b f) ≤ maxReply
+
+-- frame by frame it is the whole output: the replies of document 01, or C-13's causes, which are
+-- defined by the history and not by notes
+abbrev pub OutputWhole : Type 0
+OutputWhole =
+    (report : ℕ) (x y : List ℕ) (l : Layout) (bytes : List ℕ) (fs : List Frame) → parseImage x ≡ imageFile l bytes
+    → parseScript y ≡ script fs
+    → tooLong report (length fs) ≡ false → outputs l report (freshBench bytes) fs ≡ output report x y
 
 -- nothing is printed only for an empty script; the image file may be refused, and then it is not
 -- nothing
@@ -70,32 +92,33 @@ NothingPrinted = (x y : List ℕ) → replay x y ≡ [] → y ≡ []
 
 -- ---- frames run one by one give the output
 
--- a host that runs a frame at a time, into the same buffer, and prints each reply
-abbrev pub oneByOne : Layout → Device → List ℕ → List Frame → List ℕ
-oneByOne l d buffer [] = []
-oneByOne l d buffer (f ∷ fs) =
-    let a = runLine l (d .image) (d .gauge) (lineOf f) buffer 0 in
+-- a host that runs a frame at a time, into the same buffer, and prints what each puts out
+abbrev pub oneByOne : Layout → ℕ → Bench → List ℕ → List Frame → List ℕ
+oneByOne l report b buffer [] = []
+oneByOne l report b buffer (f ∷ fs) =
+    let a = runLine l report (b .image) (b .session) (lineOf f) buffer 0 in
     take (a .answer .length) (a .lent .buffer)
-    ++ oneByOne l (device (a .answer .gauge) (a .lent .image)) (a .lent .buffer) fs
+    ++ oneByOne l report (bench (a .answer .session) (a .lent .image)) (a .lent .buffer) fs
 
 abbrev pub OneByOne : Type 0
 OneByOne =
-    (x y buffer : List ℕ) (l : Layout) (bytes : List ℕ) (fs : List Frame) → parseImage x ≡ imageFile l bytes
-    → parseScript y ≡ script fs
-    → maxReply ≤ length buffer → oneByOne l (poweredOn bytes) buffer fs ≡ replay x y
+    (report : ℕ) (x y buffer : List ℕ) (l : Layout) (bytes : List ℕ) (fs : List Frame)
+    → parseImage x ≡ imageFile l bytes → parseScript y ≡ script fs
+    → tooLong report (length fs) ≡ false
+    → maxReply ≤ length buffer → oneByOne l report (freshBench bytes) buffer fs ≡ output report x y
 
--- ---- what `run` did: s is what it left, of a device, a text and a buffer
+-- ---- what `run` did: s is what it left, of a session with its image, a text and a buffer
 
-pub record Ran (l : Layout) (d : Device) (x buffer : List ℕ) (s : Outcome Progress Lent) : Type 0 where
+pub record Ran (l : Layout) (report : ℕ) (b : Bench) (x buffer : List ℕ) (s : Outcome Progress Lent) : Type 0 where
   -- it ran these frames, which the text begins with
   pub frames : List Frame
   pub text : IsScript frames (take (s .answer .next) x)
   pub within : s .answer .next ≤ length x
-  -- their replies are what it put into the buffer
-  pub output : s .lent .buffer ≡ sets buffer 0 (replies l d frames)
-  pub size : s .answer .length ≡ length (replies l d frames)
+  -- what they put out is what it put into the buffer
+  pub output : s .lent .buffer ≡ sets buffer 0 (outputs l report b frames)
+  pub size : s .answer .length ≡ length (outputs l report b frames)
   pub inside : s .answer .length ≤ length buffer
-  pub after : device (s .answer .gauge) (s .lent .image) ≡ afterFrames l d frames
+  pub after : bench (s .answer .session) (s .lent .image) ≡ afterLines l report b frames
   -- and it stopped where no whole line is left, where one is that is no frame, or where there was
   -- no room for one reply more
   pub errors : (s .answer .error ≡ 0) ⊎ ((s .answer .error ≡ malformed) ⊎ (s .answer .error ≡ shortBuffer))
@@ -105,16 +128,19 @@ pub record Ran (l : Layout) (d : Device) (x buffer : List ℕ) (s : Outcome Prog
   pub full : s .answer .error ≡ shortBuffer → length buffer < s .answer .length + maxReply
 
 abbrev pub RunFrames : Type 0
-RunFrames = (l : Layout) (d : Device) (x buffer : List ℕ) → Ran l d x buffer (run l (d .image) (d .gauge) x buffer)
+RunFrames =
+    (l : Layout) (report : ℕ) (b : Bench) (x buffer : List ℕ)
+    → Ran l report b x buffer (run l report (b .image) (b .session) x buffer)
 
 -- however a script is cut and whatever buffers are lent: a host that has run all of it has printed
 -- the output
 abbrev pub HostPrints : Type 0
 HostPrints =
-    (x y : List ℕ) (l : Layout) (bytes : List ℕ) (ss : List Event) → parseImage x ≡ imageFile l bytes
+    (report : ℕ) (x y : List ℕ) (l : Layout) (bytes : List ℕ) (ss : List Event) → parseImage x ≡ imageFile l bytes
     → endError (feed start y) ≡ 0
-    → arrived ss ≡ y → let h = handleAll l (host (poweredOn bytes) [] []) ss in
-    h .held ≡ [] → h .printed ≡ replay x y
+    → tooLong report (length (linesOf y)) ≡ false
+    → arrived ss ≡ y → let h = handleAll l report (host (freshBench bytes) [] []) ss in
+    h .held ≡ [] → h .printed ≡ output report x y
 
 -- ---- demand 3, of outputs
 

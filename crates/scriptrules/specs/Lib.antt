@@ -2,6 +2,9 @@ pub mod Frame
 pub mod Parser
 pub mod Reply
 pub mod Replay
+pub mod Why
+pub mod Session
 pub mod Run
 pub mod Host
 pub mod Laws
+pub mod WhyLaws

@@ -1,6 +1,6 @@
--- What the calls that run frames answer, and what they leave. A line that is no frame is refused
--- with 10 and a buffer with less room than the longest reply with 14, in this order; a refused line
--- leaves gauge, image and buffer as they were.
+-- What the calls that run frames answer, and what they leave, whatever is reported. A line that is
+-- no frame is refused with 10 and a buffer with less room than the longest reply with 14, in this
+-- order; a refused line leaves session, image and buffer as they were.
 use Prim.Native.Nat.{ℕ, _+_, _-_}
 use mathlib.Core.Bool.{Bool, cond, not}
 use mathlib.Core.List.{List, [], _∷_}
@@ -11,11 +11,11 @@ use Rattle.flashrules.specs.Error.{malformed, shortBuffer}
 use Rattle.flashrules.specs.Refusal.{firstError}
 use Rattle.flashrules.specs.Outcome.{Outcome, outcome}
 use Rattle.flashrules.specs.declared.layout.Layout.{Layout}
-use Rattle.gaugerules.specs.Script.{Device, device}
-use Rattle.gaugerules.specs.declared.state.Gauge.{Gauge}
 use Rattle.scriptrules.specs.Frame.{Frame, frameOf, linesOf}
 use Rattle.scriptrules.specs.Parser.{isFrame}
-use Rattle.scriptrules.specs.Reply.{replyText, afterFrame, maxReply}
+use Rattle.scriptrules.specs.Reply.{maxReply}
+use Rattle.scriptrules.specs.Session.{Bench, bench, frameText, afterLine}
+use Rattle.scriptrules.specs.declared.session.Session.{Session}
 use Rattle.scriptrules.specs.declared.answer.Answered.{Answered}
 use Rattle.scriptrules.specs.declared.answer.Progress.{Progress}
 
@@ -36,36 +36,36 @@ lineTests line room = (not (isFrame line), malformed) ∷ (ltb room maxReply, sh
 unfoldable pub lineError : List ℕ → ℕ → ℕ
 lineError line room = firstError (lineTests line room)
 
-abbrev pub answered : ℕ → Gauge → ℕ → Answered
-answered e g n = record { error = e; gauge = g; length = n }
+abbrev pub answered : ℕ → Session → ℕ → Answered
+answered e s n = record { error = e; session = s; length = n }
 
--- a frame is run, and its reply is put into the buffer from `at` on
-unfoldable pub runFrame : Layout → Device → Frame → List ℕ → ℕ → Outcome Answered Lent
-runFrame l d f buffer at =
-    let x = replyText l d f in
-    let d′ = afterFrame l d f in
-    outcome (answered 0 (d′ .gauge) (length x)) (lend (d′ .image) (sets buffer at x))
+-- a frame is run, and what it puts out goes into the buffer from `at` on
+unfoldable pub runFrame : Layout → ℕ → Bench → Frame → List ℕ → ℕ → Outcome Answered Lent
+runFrame l report b f buffer at =
+    let x = frameText l report b f in
+    let b′ = afterLine l report b f in
+    outcome (answered 0 (b′ .session) (length x)) (lend (b′ .image) (sets buffer at x))
 
-unfoldable pub runLine : Layout → List ℕ → Gauge → List ℕ → List ℕ → ℕ → Outcome Answered Lent
-runLine l image g line buffer at =
+unfoldable pub runLine : Layout → ℕ → List ℕ → Session → List ℕ → List ℕ → ℕ → Outcome Answered Lent
+runLine l report image s line buffer at =
     let e = lineError line (length buffer - at) in
-    cond (eqb e 0) (runFrame l (device g image) (frameOf line) buffer at) (outcome (answered e g 0) (lend image buffer))
+    cond (eqb e 0) (runFrame l report (bench s image) (frameOf line) buffer at) (outcome (answered e s 0) (lend image buffer))
 
 -- ---- the whole lines of a text
 
-abbrev pub progress : ℕ → Gauge → ℕ → ℕ → Progress
-progress e g next n = record { error = e; gauge = g; next = next; length = n }
+abbrev pub progress : ℕ → Session → ℕ → ℕ → Progress
+progress e s next n = record { error = e; session = s; next = next; length = n }
 
 -- line by line, until one is refused: `next` characters of the text and `n` of the buffer come
 -- before
-abbrev pub runLines : Layout → List ℕ → Gauge → List (List ℕ) → List ℕ → ℕ → ℕ → Outcome Progress Lent
-runLines l image g [] buffer next n = outcome (progress 0 g next n) (lend image buffer)
-runLines l image g (x ∷ xs) buffer next n =
-    let s = runLine l image g x buffer n in
-    let a = s .answer in
+abbrev pub runLines : Layout → ℕ → List ℕ → Session → List (List ℕ) → List ℕ → ℕ → ℕ → Outcome Progress Lent
+runLines l report image s [] buffer next n = outcome (progress 0 s next n) (lend image buffer)
+runLines l report image s (x ∷ xs) buffer next n =
+    let o = runLine l report image s x buffer n in
+    let a = o .answer in
     cond (eqb (a .error) 0)
-    (runLines l (s .lent .image) (a .gauge) xs (s .lent .buffer) (next + length x + 1) (n + a .length))
-    (outcome (progress (a .error) (a .gauge) next n) (s .lent))
+    (runLines l report (o .lent .image) (a .session) xs (o .lent .buffer) (next + length x + 1) (n + a .length))
+    (outcome (progress (a .error) (a .session) next n) (o .lent))
 
-unfoldable pub run : Layout → List ℕ → Gauge → List ℕ → List ℕ → Outcome Progress Lent
-run l image g text buffer = runLines l image g (linesOf text) buffer 0 0
+unfoldable pub run : Layout → ℕ → List ℕ → Session → List ℕ → List ℕ → Outcome Progress Lent
+run l report image s text buffer = runLines l report image s (linesOf text) buffer 0 0

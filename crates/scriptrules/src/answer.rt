@@ -1,21 +1,21 @@
 // What a call answers. An error is document 01's number, 0 where there is none.
-use gaugerules::state::Gauge;
+use crate::session::Session;
 
-// After one line: the gauge, and how long the reply is, with its line feed; 0 where the line is
-// refused.
+// After one line: the session, and how long is what it put out, with its line feed; 0 where the
+// line is refused.
 #[repr(C)]
 pub struct Answered {
     pub error: u8,
-    pub gauge: Gauge,
+    pub session: Session,
     pub length: usize,
 }
 
-// After the lines of a text: the gauge, where the first line begins that was not run, and how many
-// bytes of the buffer are replies.
+// After the lines of a text: the session, where the first line begins that was not run, and how
+// many bytes of the buffer are output.
 #[repr(C)]
 pub struct Progress {
     pub error: u8,
-    pub gauge: Gauge,
+    pub session: Session,
     pub next: usize,
     pub length: usize,
 }

@@ -4,3 +4,4 @@
 // program".
 pub mod answer;
 pub mod parser;
+pub mod session;

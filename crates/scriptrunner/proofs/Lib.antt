@@ -1,3 +1,4 @@
 pub mod DecodeLaws
+pub mod ExplainLaws
 pub mod LoopLaws
 pub mod PutLaws

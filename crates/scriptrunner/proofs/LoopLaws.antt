@@ -18,12 +18,12 @@ use Rattle.flashrules.proofs.Laws.{no-error}
 use Rattle.flashrules.proofs.Picks.{on-test}
 use Rattle.hextext.specs.Hex.{lineFeed}
 use Rattle.imagerules.proofs.LineLaws.{line-end}
-use Rattle.gaugerules.specs.Script.{device}
-use Rattle.gaugerules.specs.declared.state.Gauge.{Gauge}
 use Rattle.scriptrules.specs.Frame.{frameOf, linesAfter, linesOf}
 use Rattle.scriptrules.specs.Parser.{isFrame}
 use Rattle.scriptrules.specs.Reply.{maxReply}
+use Rattle.scriptrules.specs.Session.{bench}
 use Rattle.scriptrules.specs.Run.{Lent, lend, lineTests, lineError, answered, runFrame, runLine, progress, runLines, run}
+use Rattle.scriptrules.specs.declared.session.Session.{Session}
 use Rattle.scriptrules.specs.declared.answer.Answered.{Answered}
 use Rattle.scriptrules.specs.declared.answer.Progress.{Progress}
 
@@ -62,18 +62,18 @@ module _ (line : List ℕ) (room e : ℕ) (p : e ≡ lineError line room) (q : e
 
 -- ---- one line
 
-module _ (l : Layout) (image : List ℕ) (g : Gauge) (line buffer : List ℕ) (at e : ℕ) (p : e ≡ lineError line (length buffer - at)) where
-  pub answers : (z : Outcome Answered Lent) → e ≡ 0 → z ≡ runFrame l (device g image) (frameOf line) buffer at → z ≡ runLine l image g line buffer at
+module _ (l : Layout) (report : ℕ) (image : List ℕ) (s : Session) (line buffer : List ℕ) (at e : ℕ) (p : e ≡ lineError line (length buffer - at)) where
+  pub answers : (z : Outcome Answered Lent) → e ≡ 0 → z ≡ runFrame l report (bench s image) (frameOf line) buffer at → z ≡ runLine l report image s line buffer at
   unfolding runLine
   answers z q r = r ∙ rw (← p, q)
 
-  pub answers-not : (e ≡ 0 → ⊥) → outcome (answered e g 0) (lend image buffer) ≡ runLine l image g line buffer at
+  pub answers-not : (e ≡ 0 → ⊥) → outcome (answered e s 0) (lend image buffer) ≡ runLine l report image s line buffer at
   unfolding runLine
   answers-not q = rw (← p, ne-eqb e 0 q)
 
 -- the same behind other replies
 pub answers-behind : (z : Outcome Answered Lent) (image buffer : List ℕ) (a : Answered) (used : ℕ) → outcome a (lend image buffer) ≡ z
-    → outcome (answered (a .error) (a .gauge) (used + a .length - used)) (lend image buffer) ≡ z
+    → outcome (answered (a .error) (a .session) (used + a .length - used)) (lend image buffer) ≡ z
 answers-behind z image buffer a used p = rw add-sub-cancel-left p
 
 -- ---- the first line of a text, by its line feed
@@ -95,20 +95,20 @@ lines-none line (c ∷ cs) h =
 
 -- ---- the loop: `inv` is its invariant
 
-pub run-start : (l : Layout) (text image buffer : List ℕ) (g : Gauge) → runLines l image g (linesOf (drop 0 text)) buffer 0 0 ≡ run l image g text buffer
+pub run-start : (l : Layout) (report : ℕ) (text image buffer : List ℕ) (s : Session) → runLines l report image s (linesOf (drop 0 text)) buffer 0 0 ≡ run l report image s text buffer
 unfolding run
-run-start l text image buffer g = refl
+run-start l report text image buffer s = refl
 
-module _ (l : Layout) (text image buffer : List ℕ) (g : Gauge) (from out : ℕ) (z : Outcome Progress Lent) (inv : runLines l image g (linesOf (drop from text)) buffer from out ≡ z) where
+module _ (l : Layout) (report : ℕ) (text image buffer : List ℕ) (s : Session) (from out : ℕ) (z : Outcome Progress Lent) (inv : runLines l report image s (linesOf (drop from text)) buffer from out ≡ z) where
   -- no line is left
-  pub run-done : length text ≤ from → outcome (progress 0 g from out) (lend image buffer) ≡ z
+  pub run-done : length text ≤ from → outcome (progress 0 s from out) (lend image buffer) ≡ z
   run-done h = rw (drop-of-length-le text h) at inv
 
   module _ (end : ℕ) (p : end ≡ from + indexOf lineFeed (slice from (length text) text)) where
     gap : indexOf lineFeed (drop from text) ≡ end - from
     gap = omega (arith, line-end text from end p)
 
-    pub run-end : from ≤ length text → length text ≤ end → outcome (progress 0 g from out) (lend image buffer) ≡ z
+    pub run-end : from ≤ length text → length text ≤ end → outcome (progress 0 s from out) (lend image buffer) ≡ z
     run-end k h = rw (lines-none [] (drop from text) (rw (length-drop, gap) (omega (arith, line-end text from end p)))) at inv
 
     module _ (h : end < length text) where
@@ -120,8 +120,8 @@ module _ (l : Layout) (text image buffer : List ℕ) (g : Gauge) (from out : ℕ
 
       -- a is what the line's answer was, with the length of all replies
       module _ (image′ buffer′ : List ℕ) (a : Answered)
-          (q : outcome (answered (a .error) (a .gauge) (a .length - out)) (lend image′ buffer′) ≡ runLine l image g (take (end - from) (drop from text)) buffer out) where
-        pub run-more : a .error ≡ 0 → out ≤ a .length → runLines l image′ (a .gauge) (linesOf (drop (end + 1) text)) buffer′ (end + 1) (a .length) ≡ z
+          (q : outcome (answered (a .error) (a .session) (a .length - out)) (lend image′ buffer′) ≡ runLine l report image s (take (end - from) (drop from text)) buffer out) where
+        pub run-more : a .error ≡ 0 → out ≤ a .length → runLines l report image′ (a .session) (linesOf (drop (end + 1) text)) buffer′ (end + 1) (a .length) ≡ z
         unfolding outcome
         run-more r u =
             let n : from + length (take (end - from) (drop from text)) + 1 ≡ end + 1
@@ -129,6 +129,6 @@ module _ (l : Layout) (text image buffer : List ℕ) (g : Gauge) (from out : ℕ
             let m : out + (a .length - out) ≡ a .length = omega arith in
             rw (first, ← q, r, n, m) at inv
 
-        pub run-stop : (a .error ≡ 0 → ⊥) → outcome (progress (a .error) (a .gauge) from out) (lend image′ buffer′) ≡ z
+        pub run-stop : (a .error ≡ 0 → ⊥) → outcome (progress (a .error) (a .session) from out) (lend image′ buffer′) ≡ z
         unfolding outcome
         run-stop r = rw (first, ← q, ne-eqb (a .error) 0 r) at inv

@@ -14,13 +14,15 @@ use Rattle.flashrules.specs.declared.layout.Layout.{Layout}
 use Rattle.gaugerules.specs.Register.{registers}
 use Rattle.gaugerules.specs.Write.{write}
 use Rattle.gaugerules.specs.Read.{read}
-use Rattle.gaugerules.specs.Script.{device, reply, afterCall}
+use Rattle.gaugerules.specs.Script.{reply, afterCall}
 use Rattle.gaugerules.specs.declared.state.Gauge.{Gauge}
 use Rattle.gaugerules.specs.declared.answer.Written.{Written}
 use Rattle.gaugerules.specs.declared.answer.Reading.{Reading}
 use Rattle.scriptrules.specs.Frame.{writeFrame, readFrame}
 use Rattle.scriptrules.specs.Reply.{replyText, afterFrame}
+use Rattle.scriptrules.specs.Session.{reportReplies, session, bench, frameText, afterLine}
 use Rattle.scriptrules.specs.Run.{lend, answered, runFrame}
+use Rattle.scriptrules.specs.declared.session.Session.{Session}
 use Rattle.scriptrules.proofs.ReplyLaws.{read-accepts}
 
 -- a line behind its first byte
@@ -38,23 +40,24 @@ module _ (n : ℕ) where
   unfolding digit
   low-low = let h : n % 256 % 16 ≡ n % 16 = omega arith in rw h
 
-module _ (l : Layout) (image : List ℕ) (g : Gauge) (r : ℕ) where
-  pub write-answered : (bytes buffer image′ buffer′ : List ℕ) (w : Written) (n c at : ℕ) → outcome w image′ ≡ write l image g r bytes
-      → n ≡ w .accepted % 256 → c ≡ w .changed % 256 → buffer′ ≡ sets buffer at (hexLine (w .error ∷ n ∷ c ∷ []))
-      → outcome (answered 0 (w .gauge) 7) (lend image′ buffer′) ≡ runFrame l (device g image) (writeFrame r bytes) buffer at
-  unfolding runFrame replyText afterFrame reply afterCall outcome
-  write-answered bytes buffer image′ buffer′ w n c at p q t e =
-      rw (← p, e, q, t, low-high (w .accepted), low-low (w .accepted), low-high (w .changed), low-low (w .changed))
-
-  pub read-few : (v v′ : List ℕ) (n : ℕ) (a : Reading) → outcome a v′ ≡ read l image g r n v → a .accepted ≤ length v
+module _ (l : Layout) (image : List ℕ) (r : ℕ) where
+  pub read-few : (g : Gauge) (v v′ : List ℕ) (n : ℕ) (a : Reading) → outcome a v′ ≡ read l image g r n v → a .accepted ≤ length v
   unfolding outcome
-  read-few v v′ n a p = rw (← p) at (read-accepts l image g r n v)
+  read-few g v v′ n a p = rw (← p) at (read-accepts l image g r n v)
 
-  pub read-answered : (buffer buffer′ v : List ℕ) (a : Reading) (n at : ℕ) → outcome a v ≡ read l image g r n (replicate registers 0)
-      → a .accepted ≤ registers → length v ≡ registers → buffer′ ≡ sets buffer at (hexLine (a .error ∷ take (a .accepted - 0) (drop 0 v)))
-      → outcome (answered 0 g (3 + 2 * a .accepted)) (lend image buffer′) ≡ runFrame l (device g image) (readFrame r n) buffer at
-  unfolding runFrame replyText afterFrame reply afterCall outcome
-  read-answered buffer buffer′ v a n at p h k e =
-      let m : length (hexLine (a .error ∷ take (a .accepted) v)) ≡ 3 + 2 * a .accepted
-      = line-length (a .error ∷ take (a .accepted) v) ∙ rw length-take (omega arith) in
-      rw (← p, e, sub-zero, ← m)
+  module _ (s : Session) where
+    pub write-answered : (bytes buffer image′ buffer′ : List ℕ) (w : Written) (n c at : ℕ) → outcome w image′ ≡ write l image (s .gauge) r bytes
+        → n ≡ w .accepted % 256 → c ≡ w .changed % 256 → buffer′ ≡ sets buffer at (hexLine (w .error ∷ n ∷ c ∷ []))
+        → outcome (answered 0 (session (w .gauge) (s .notes)) 7) (lend image′ buffer′) ≡ runFrame l reportReplies (bench s image) (writeFrame r bytes) buffer at
+    unfolding runFrame frameText afterLine replyText afterFrame reply afterCall outcome
+    write-answered bytes buffer image′ buffer′ w n c at p q t e =
+        rw (← p, e, q, t, low-high (w .accepted), low-low (w .accepted), low-high (w .changed), low-low (w .changed))
+
+    pub read-answered : (buffer buffer′ v : List ℕ) (a : Reading) (n at : ℕ) → outcome a v ≡ read l image (s .gauge) r n (replicate registers 0)
+        → a .accepted ≤ registers → length v ≡ registers → buffer′ ≡ sets buffer at (hexLine (a .error ∷ take (a .accepted - 0) (drop 0 v)))
+        → outcome (answered 0 s (3 + 2 * a .accepted)) (lend image buffer′) ≡ runFrame l reportReplies (bench s image) (readFrame r n) buffer at
+    unfolding runFrame frameText afterLine replyText afterFrame reply afterCall outcome
+    read-answered buffer buffer′ v a n at p h j e =
+        let m : length (hexLine (a .error ∷ take (a .accepted) v)) ≡ 3 + 2 * a .accepted
+        = line-length (a .error ∷ take (a .accepted) v) ∙ rw length-take (omega arith) in
+        rw (← p, e, sub-zero, ← m)

@@ -8,6 +8,7 @@ use gaugerules::state::Gauge;
 use hextext::encode_byte;
 use hextext::encode_line;
 use scriptrules::answer::Answered;
+use scriptrules::session::Session;
 ghost use mathlib.Core.Path.{_≡_};
 ghost use mathlib.Core.List.{_∷_};
 ghost use Prim.Native.Nat.{_%_, _≤_};
@@ -16,9 +17,9 @@ ghost use lib.Seq.{sets};
 ghost use Rattle.hextext.specs.Hex.{hexLine};
 ghost use Rattle.flashrules.specs.Outcome.{outcome};
 ghost use Rattle.gaugerules.specs.Read.{read};
-ghost use Rattle.gaugerules.specs.Script.{device};
 ghost use Rattle.scriptrules.specs.Frame.{writeFrame, readFrame};
 ghost use Rattle.scriptrules.specs.Reply.{maxReply};
+ghost use Rattle.scriptrules.specs.Session.{reportReplies, bench};
 ghost use Rattle.scriptrules.specs.Run.{lend, runFrame};
 
 // The longest reply: 00, 128 bytes and a line feed.
@@ -42,26 +43,30 @@ fn low_byte(n: usize) -> u8
 }
 
 // A write frame is run, and replied to.
-pub(crate) fn run_write(
+pub(crate) fn reply_write(
     layout: Layout,
     image: &mut [u8],
-    gauge: Gauge,
+    session: Session,
     register: u8,
     bytes: &[u8],
     buffer: &mut [u8],
     at: usize,
 ) -> Answered
-    ensures { λ r. ⌜ outcome r (lend (now (image .exit)) (now (buffer .exit))) ≡ runFrame layout (device gauge (now (image .entry))) (writeFrame register (now (bytes .entry))) (now (buffer .entry)) at ⌝ }
+    ensures { λ r. ⌜ outcome r (lend (now (image .exit)) (now (buffer .exit))) ≡ runFrame layout reportReplies (bench session (now (image .entry))) (writeFrame register (now (bytes .entry))) (now (buffer .entry)) at ⌝ }
     ensures { λ r. ⌜ r .length ≤ maxReply ⌝ }
 {
-    let written = write(layout, image, gauge, register, bytes);
+    let written = write(layout, image, session.gauge, register, bytes);
     let accepted = low_byte(written.accepted);
     let changed = low_byte(written.changed);
     encode_line(&[written.error, accepted, changed], buffer, at);
     let after = written.gauge;
+    let notes = session.notes;
     Answered {
         error: 0,
-        gauge: after,
+        session: Session {
+            gauge: after,
+            notes,
+        },
         length: 7,
     }
 }
@@ -82,25 +87,25 @@ fn read_registers(
 }
 
 // A read frame is run, and replied to.
-pub(crate) fn run_read(
+pub(crate) fn reply_read(
     layout: Layout,
     image: &[u8],
-    gauge: Gauge,
+    session: Session,
     register: u8,
     count: u8,
     buffer: &mut [u8],
     at: usize,
 ) -> Answered
-    ensures { λ r. ⌜ outcome r (lend (now (image .entry)) (now (buffer .exit))) ≡ runFrame layout (device gauge (now (image .entry))) (readFrame register count) (now (buffer .entry)) at ⌝ }
+    ensures { λ r. ⌜ outcome r (lend (now (image .entry)) (now (buffer .exit))) ≡ runFrame layout reportReplies (bench session (now (image .entry))) (readFrame register count) (now (buffer .entry)) at ⌝ }
     ensures { λ r. ⌜ r .length ≤ maxReply ⌝ }
 {
     let mut values = [0u8; REGISTERS];
-    let reading = read_registers(layout, image, gauge, register, count, &mut values);
+    let reading = read_registers(layout, image, session.gauge, register, count, &mut values);
     let n = reading.accepted;
     put_line(reading.error, &values[0..n], buffer, at);
     Answered {
         error: 0,
-        gauge,
+        session,
         length: 3 + 2 * n,
     }
 }

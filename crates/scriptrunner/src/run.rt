@@ -1,12 +1,11 @@
-// Frames are run on a gauge and its image, and their replies put into a lent buffer: a line at a
-// time, or all whole lines of a text.
+// Frames are run in a session, over its image, and what they put out goes into a lent buffer: a
+// line at a time, or all whole lines of a text.
 use crate::reply::MAX_REPLY;
-use crate::reply::run_read;
-use crate::reply::run_write;
+use crate::report::run_read;
+use crate::report::run_write;
 use flashrules::error::MALFORMED;
 use flashrules::error::SHORT_BUFFER;
 use flashrules::layout::Layout;
-use gaugerules::state::Gauge;
 use hextext::LINE_FEED;
 use hextext::decode;
 use scriptparser::is_frame;
@@ -14,16 +13,17 @@ use scriptrules::answer::Answered;
 use scriptrules::answer::Progress;
 use scriptrules::parser::MAX_FRAME;
 use scriptrules::parser::READ;
+use scriptrules::session::Session;
 ghost use mathlib.Core.Path.{_≡_};
 ghost use mathlib.Core.Bool.{true};
 ghost use Prim.Native.Nat.{_-_, _≤_};
 ghost use lib.ListN.{length};
 ghost use Rattle.hextext.specs.Hex.{unhex};
-ghost use Rattle.gaugerules.specs.Script.{device};
 ghost use Rattle.scriptrules.specs.Frame.{maxFrame, frameOf};
 ghost use Rattle.scriptrules.specs.Parser.{isFrame};
 ghost use Rattle.scriptrules.specs.Reply.{maxReply};
 ghost use Rattle.flashrules.specs.Outcome.{outcome};
+ghost use Rattle.scriptrules.specs.Session.{bench};
 ghost use Rattle.scriptrules.specs.Run.{lend, lineError, answered, runFrame, runLine, run};
 
 // Why a line is not run, 0 where it is; the buffer has so many bytes.
@@ -50,89 +50,111 @@ fn frame_length(line: &[u8]) -> usize
     line.len() / 2
 }
 
-// A frame is run, and replied to.
+// A frame is run.
 fn run_frame(
     layout: Layout,
+    report: u8,
     image: &mut [u8],
-    gauge: Gauge,
+    session: Session,
     line: &[u8],
     buffer: &mut [u8],
     at: usize,
 ) -> Answered
     requires { ⌜ isFrame (now line) ≡ true ⌝ }
-    ensures { λ r. ⌜ outcome r (lend (now (image .exit)) (now (buffer .exit))) ≡ runFrame layout (device gauge (now (image .entry))) (frameOf (now (line .entry))) (now (buffer .entry)) at ⌝ }
+    ensures { λ r. ⌜ outcome r (lend (now (image .exit)) (now (buffer .exit))) ≡ runFrame layout report (bench session (now (image .entry))) (frameOf (now (line .entry))) (now (buffer .entry)) at ⌝ }
     ensures { λ r. ⌜ r .length ≤ maxReply ⌝ }
 {
     let mut frame = [0u8; MAX_FRAME];
     decode(line, &mut frame, 0);
     if frame[0] == READ {
-        return run_read(layout, &image[..], gauge, frame[1], frame[2], buffer, at);
+        return run_read(
+            layout,
+            report,
+            &image[..],
+            session,
+            frame[1],
+            frame[2],
+            buffer,
+            at,
+        );
     }
     let end = frame_length(line);
-    run_write(layout, image, gauge, frame[1], &frame[2..end], buffer, at)
+    run_write(
+        layout,
+        report,
+        image,
+        session,
+        frame[1],
+        &frame[2..end],
+        buffer,
+        at,
+    )
 }
 
-// One line, without its line feed, is run; its reply is put into the buffer from an index on. A
-// refused line alters nothing.
+// One line, without its line feed, is run; what it puts out goes into the buffer from an index on.
+// A refused line alters nothing.
 pub fn run_line(
     layout: Layout,
+    report: u8,
     image: &mut [u8],
-    gauge: Gauge,
+    session: Session,
     line: &[u8],
     buffer: &mut [u8],
     at: usize,
 ) -> Answered
-    ensures { λ r. ⌜ outcome r (lend (now (image .exit)) (now (buffer .exit))) ≡ runLine layout (now (image .entry)) gauge (now (line .entry)) (now (buffer .entry)) at ⌝ }
+    ensures { λ r. ⌜ outcome r (lend (now (image .exit)) (now (buffer .exit))) ≡ runLine layout report (now (image .entry)) session (now (line .entry)) (now (buffer .entry)) at ⌝ }
     ensures { λ r. ⌜ r .length ≤ length (now (buffer .entry)) - at ⌝ }
 {
     let error = line_error(line, buffer.len(), at);
     if error == 0 {
-        return run_frame(layout, image, gauge, line, buffer, at);
+        return run_frame(layout, report, image, session, line, buffer, at);
     }
     Answered {
         error,
-        gauge,
+        session,
         length: 0,
     }
 }
 
-// One line more is run, behind replies that take up so much of the buffer; its length here is that
-// of all of them.
+// One line more is run, behind output that takes up so much of the buffer; its length here is that
+// of all of it.
 fn run_behind(
     layout: Layout,
+    report: u8,
     image: &mut [u8],
-    gauge: Gauge,
+    session: Session,
     line: &[u8],
     buffer: &mut [u8],
     used: usize,
 ) -> Answered
     requires { ⌜ used ≤ length (now buffer) ⌝ }
-    ensures { λ r. ⌜ outcome (answered (r .error) (r .gauge) (r .length - used)) (lend (now (image .exit)) (now (buffer .exit))) ≡ runLine layout (now (image .entry)) gauge (now (line .entry)) (now (buffer .entry)) used ⌝ }
+    ensures { λ r. ⌜ outcome (answered (r .error) (r .session) (r .length - used)) (lend (now (image .exit)) (now (buffer .exit))) ≡ runLine layout report (now (image .entry)) session (now (line .entry)) (now (buffer .entry)) used ⌝ }
     ensures { λ r. ⌜ (used ≤ r .length) × (r .length ≤ length (now (buffer .entry))) ⌝ }
 {
-    let answered = run_line(layout, image, gauge, line, buffer, used);
-    let after = answered.gauge;
+    let answered = run_line(layout, report, image, session, line, buffer, used);
+    let after = answered.session;
     Answered {
         error: answered.error,
-        gauge: after,
+        session: after,
         length: used + answered.length,
     }
 }
 
-// The whole lines of a text are run, until one is refused; their replies are put at the front of
-// the buffer. 14 says that the buffer has no room for one more: the caller goes on behind `next`
+// The whole lines of a text are run, until one is refused; what they put out is at the front of the
+// buffer. 14 says that the buffer has no room for one more: the caller goes on behind `next`
 // with another.
 pub fn run(
     layout: Layout,
+    report: u8,
     image: &mut [u8],
-    gauge: Gauge,
+    session: Session,
     text: &[u8],
     buffer: &mut [u8],
 ) -> Progress
-    ensures { λ r. ⌜ outcome r (lend (now (image .exit)) (now (buffer .exit))) ≡ run layout (now (image .entry)) gauge (now (text .entry)) (now (buffer .entry)) ⌝ }
+    ensures { λ r. ⌜ outcome r (lend (now (image .exit)) (now (buffer .exit))) ≡ run layout report (now (image .entry)) session (now (text .entry)) (now (buffer .entry)) ⌝ }
     ensures { λ r. ⌜ (r .next ≤ length (now (text .entry))) × (r .length ≤ length (now (buffer .entry))) ⌝ }
 {
-    let mut after = gauge;
+    let mut after = session;
     let mut from = 0;
     let mut out = 0;
     while from < text.len() {
@@ -140,22 +162,22 @@ pub fn run(
         if text.len() <= end {
             return Progress {
                 error: 0,
-                gauge: after,
+                session: after,
                 next: from,
                 length: out,
             };
         }
         let next = end + 1;
-        let answered = run_behind(layout, image, after, &text[from..end], buffer, out);
+        let answered = run_behind(layout, report, image, after, &text[from..end], buffer, out);
         let error = answered.error;
-        after = answered.gauge;
+        after = answered.session;
         if error == 0 {
             out = answered.length;
             from = next;
         } else {
             return Progress {
                 error,
-                gauge: after,
+                session: after,
                 next: from,
                 length: out,
             };
@@ -163,7 +185,7 @@ pub fn run(
     }
     Progress {
         error: 0,
-        gauge: after,
+        session: after,
         next: from,
         length: out,
     }

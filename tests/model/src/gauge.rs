@@ -45,7 +45,7 @@ impl Gauge {
     }
 
     /// "A write takes its bytes one by one at r, r+1 and so on. The first refused byte ends it."
-    fn take(&mut self, register: u8, bytes: &[u8]) -> (Option<Error>, usize) {
+    pub fn take(&mut self, register: u8, bytes: &[u8]) -> (Option<Error>, usize) {
         if let Err(error) = self.judge(register, bytes.len()) {
             return (Some(error), 0);
         }

@@ -1,8 +1,8 @@
 //! An independent model of document 01, "Build description and exact rules": layout, image file,
 //! gauge, parameters and replay program; and of change requests C-11, the list of what differs
-//! between two images, and C-12, how many bytes a commit changed. It is written from these papers
-//! alone and puts simplicity first: each call judges everything anew. Comments quote the sentence
-//! that a rule follows.
+//! between two images, C-12, how many bytes a commit changed, and C-13, which line caused a
+//! refusal. It is written from these papers alone and puts simplicity first: each call judges
+//! everything anew. Comments quote the sentence that a rule follows.
 
 pub mod changed;
 pub mod delta;
@@ -15,3 +15,4 @@ pub mod record;
 pub mod replay;
 pub mod script;
 pub mod text;
+pub mod why;

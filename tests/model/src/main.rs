@@ -3,6 +3,7 @@
 //!
 //!     model replay    image.hex, script.hex
 //!     model diff      old.hex, new.hex
+//!     model why       image.hex, script.hex
 
 use std::io::{self, BufWriter, Write};
 use std::{env, fs};
@@ -18,7 +19,11 @@ fn main() -> io::Result<()> {
             let (old, new) = (read("old.hex"), read("new.hex"));
             output.write_all(&model::delta::diff(old.as_deref(), new.as_deref()))?;
         }
-        _ => return Err(io::Error::other("usage: model replay, or model diff")),
+        Some("why") => {
+            let (image, script) = (read("image.hex"), read("script.hex"));
+            model::why::run(image.as_deref(), script.as_deref(), &mut output)?;
+        }
+        _ => return Err(io::Error::other("usage: model replay, model diff, or model why")),
     }
     output.flush()
 }

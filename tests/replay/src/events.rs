@@ -1,12 +1,12 @@
 //! What is counted of a case, by running its script once more.
 
-use crate::cases::Case;
 use model::error::Error;
 use model::gauge::Gauge;
 use model::layout::{BLOCK_LENGTH, INFO_CLASS};
-use model::record::{Boot, Loaded, Mode};
+use model::record::{Loaded, Mode};
 use model::script::{frame, Frame, MAX_FRAME};
-use model::{imagefile, script, text};
+use model::text;
+use scripts::files::Files;
 use std::ops::Range;
 use std::sync::LazyLock;
 
@@ -68,15 +68,12 @@ pub static EVENTS: LazyLock<Vec<&str>> = LazyLock::new(|| {
 });
 
 /// Counts the events of one case and answers the number of its script lines.
-pub fn count(case: &Case, times: &mut [usize]) -> usize {
-    let flash = case.image.text().and_then(|text| imagefile::read(text).ok());
-    let script = case.script.text().filter(|text| script::is_valid(text));
+pub fn count(files: &Files, times: &mut [usize]) -> usize {
     let (refused_file, of_lines) = times.split_first_mut().expect("one count an event");
-    let (Some((layout, image)), Some(script)) = (flash, script) else {
+    let Some((mut gauge, script)) = files.run() else {
         *refused_file += 1;
         return 0;
     };
-    let mut gauge = Gauge::power_on(layout, image, Boot::Sealed);
     let mut buffer = [0; MAX_FRAME];
     let mut lines = 0;
     for line in text::lines(script).expect("a valid script") {

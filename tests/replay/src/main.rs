@@ -3,20 +3,22 @@
 //!
 //!     compare-replay PROGRAM FOLDER [SEED [CASES]]
 
-mod badscripts;
-mod cases;
-mod draft;
 mod events;
-mod moves;
-mod scripts;
 
 use harness::comparison::Comparison;
+use model::replay::replay;
+use scripts::cases::{kinds, Kind, Tool};
 use std::process::ExitCode;
+use std::sync::LazyLock;
+
+const REPLAY: Tool = Tool { output: replay, count: events::count };
+
+static KINDS: LazyLock<Vec<Kind>> = LazyLock::new(|| kinds(REPLAY, &[]));
 
 fn main() -> ExitCode {
     let comparison = Comparison {
         name: "compare-replay",
-        kinds: &cases::KINDS,
+        kinds: &KINDS,
         cases: 3_000,
         events: &events::EVENTS,
         floor: 200,

@@ -11,10 +11,10 @@ use Rattle.scriptrunner.proofs.run.run.Statement.{statement}
 use Rattle.scriptrunner.proofs.run.run.Tie as tie
 
 abbrev Inv-loop : tie.InvT-loop
-Inv-loop layout image₀ text buffer₀ after₀ from₀ out₀ image buffer after from out = (runLines layout image after (linesOf (drop from text)) buffer from out ≡ run layout image₀ after₀ text buffer₀) × (from ≤ length text) × (out ≤ length buffer) × (length buffer ≡ length buffer₀) × (length image ≡ length image₀)
+Inv-loop layout report image₀ text buffer₀ after₀ from₀ out₀ image buffer after from out = (runLines layout report image after (linesOf (drop from text)) buffer from out ≡ run layout report image₀ after₀ text buffer₀) × (from ≤ length text) × (out ≤ length buffer) × (length buffer ≡ length buffer₀) × (length image ≡ length image₀)
 
 abbrev μ-loop : tie.MeasureT-loop
-μ-loop layout image₀ text buffer₀ after₀ from₀ out₀ image buffer after from out = length text - from
+μ-loop layout report image₀ text buffer₀ after₀ from₀ out₀ image buffer after from out = length text - from
 
 pub run-spec : {M : Type 1} → statement M
 run-spec =

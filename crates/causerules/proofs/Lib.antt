@@ -1,0 +1,5 @@
+pub mod HistoryLaws
+pub mod SinceLaws
+pub mod ReasonLaws
+pub mod ChecksumLaws
+pub mod Laws

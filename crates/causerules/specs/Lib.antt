@@ -1,0 +1,4 @@
+pub mod History
+pub mod Cause
+pub mod Notes
+pub mod Laws

@@ -1,0 +1,3 @@
+pub mod NoteLaws
+pub mod TrackLaws
+pub mod TextLaws

@@ -1,0 +1,70 @@
+-- What is claimed of the output of `why`: document 02, C-13, "The named reason must be proved the
+-- true one, against the script's history." proofs/Laws.antt has a proof of each claim, under its
+-- name in small letters.
+use Prim.Native.Nat.{ℕ, _+_}
+use mathlib.Core.Path.{_≡_}
+use mathlib.Core.Logic.{_⊎_}
+use mathlib.Core.Bool.{true}
+use mathlib.Core.List.{List, [], _∷_, _++_}
+use lib.ListN.{length}
+use Rattle.flashrules.specs.Error.{protectedBlock, wrongChecksum}
+use Rattle.flashrules.specs.Layout.{fits}
+use Rattle.flashrules.specs.declared.layout.Layout.{Layout}
+use Rattle.gaugerules.specs.State.{bootSealed, powerOn}
+use Rattle.gaugerules.specs.Write.{write}
+use Rattle.gaugerules.specs.Script.{Device}
+use Rattle.gaugerules.specs.declared.answer.Written.{Written}
+use Rattle.causerules.specs.History.{Step, writeSteps}
+use Rattle.causerules.specs.Cause.{reasonOf, cause}
+use Rattle.causerules.specs.Laws.{holdsFor, gaveFor, Since}
+use Rattle.causerules.specs.declared.reason.Reason.{Reason}
+use Rattle.scriptrules.specs.Frame.{Frame}
+use Rattle.scriptrules.specs.Reply.{afterFrame, afterFrames}
+use Rattle.scriptrules.specs.Replay.{poweredOn}
+use Rattle.scriptrules.specs.Why.{frameSteps, history, explanation, explanations}
+
+-- each frame is explained at its place in the script, by the history of all frames before it
+abbrev pub ExplainedEach : Type 0
+ExplainedEach =
+    (l : Layout) (d : Device) (fs : List Frame) (f : Frame) (gs : List Frame) → let d′ = afterFrames l d fs in
+    let h = history l d 1 fs in
+    let line = 1 + length fs in
+    explanations l d [] 1 (fs ++ (f ∷ gs))
+    ≡ explanations l d [] 1 fs
+    ++ (explanation l d′ h line f ++ explanations l (afterFrame l d′ f) (h ++ frameSteps l d′ line f) (line + 1) gs)
+
+-- a write that comes after these frames, powered on sealed: its answer
+abbrev pub answerAfter : Layout → List ℕ → List Frame → ℕ → List ℕ → Written
+answerAfter l image fs r bytes =
+    let d = afterFrames l (poweredOn image) fs in write l (d .image) (d .gauge) r bytes .answer
+
+-- and the history up to the byte that it is refused for
+abbrev pub historyUpTo : Layout → List ℕ → List Frame → ℕ → List ℕ → List Step
+historyUpTo l image fs r bytes =
+    let d = afterFrames l (poweredOn image) fs in
+    history l (poweredOn image) 1 fs ++ writeSteps l (d .image) (d .gauge) (1 + length fs) r bytes
+
+-- the line that is named for it
+abbrev pub namedLine : Layout → List ℕ → List Frame → ℕ → List ℕ → ℕ
+namedLine l image fs r bytes =
+    let w = answerAfter l image fs r bytes in
+    cause (historyUpTo l image fs r bytes) (1 + length fs) (w .gauge) (w .error)
+
+-- what the reason says has held since the named line, or since power-on where that is 0; and where
+-- the reason is the line itself, that is named
+abbrev pub CauseTrue : Type 0
+CauseTrue =
+    (l : Layout) (image : List ℕ) (fs : List Frame) (r : ℕ) (bytes : List ℕ) → fits l (length image) ≡ true
+    → let w = answerAfter l image fs r bytes in
+    let reason = reasonOf (w .error) (w .gauge) in
+    let n = namedLine l image fs r bytes in
+    (w .error ≡ 0 → ⊥)
+    → ((reason ≡ Reason.Itself) × (n ≡ 1 + length fs))
+    ⊎ Since (gaveFor reason (w .gauge)) (holdsFor reason (w .gauge)) (powerOn bootSealed) (historyUpTo l image fs r bytes) n
+
+-- block A and a window that can be committed were loaded by some line
+abbrev pub CausedByLine : Type 0
+CausedByLine =
+    (l : Layout) (image : List ℕ) (fs : List Frame) (r : ℕ) (bytes : List ℕ) → fits l (length image) ≡ true
+    → let w = answerAfter l image fs r bytes in
+    (w .error ≡ protectedBlock) ⊎ (w .error ≡ wrongChecksum) → namedLine l image fs r bytes ≡ 0 → ⊥

@@ -1,0 +1,16 @@
+-- `scriptrunner::explain::explain_write` meets its contract. By the write whose bytes are noted.
+use borrow.Author.Needs.{needs}
+use Rattle.scriptrunner.proofs.ExplainLaws.{write-explained, write-short}
+use Rattle.scriptrunner.proofs.explain.explain_write.Statement.{statement}
+use Rattle.scriptrunner.proofs.explain.explain_write.Tie as tie
+
+pub explain-write-spec : {M : Type 1} → statement M
+explain-write-spec =
+    tie.close
+    (tie.spec
+    (λ c κs. search needs)
+    (λ c κs. search needs)
+    (λ c κs. search needs)
+    (λ c. search needs)
+    (λ c. search needs)
+    (λ c. (search write-explained, search (needs, write-short))))

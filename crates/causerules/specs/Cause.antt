@@ -93,10 +93,10 @@ abbrev pub fourBytes : ℕ → List ℕ
 fourBytes n = n / 0x1000000 % 256 ∷ n / 0x10000 % 256 ∷ n / 0x100 % 256 ∷ n % 256 ∷ []
 
 -- "then the checksum that would have matched", for 8
-abbrev pub wanted : ℕ → Gauge → List ℕ
-wanted e g = cond (eqb e wrongChecksum) (checksum (g .window) ∷ []) []
+abbrev pub matching : ℕ → Gauge → List ℕ
+matching e g = cond (eqb e wrongChecksum) (checksum (g .window) ∷ []) []
 
 -- "one hexadecimal line a refused write, the refusal and then the line"; of a write that ended with
 -- error e, 0 where none was refused, at gauge g
 unfoldable pub causeText : ℕ → Gauge → ℕ → List ℕ
-causeText e g line = cond (eqb e 0) [] (hexLine (e ∷ fourBytes line ++ wanted e g))
+causeText e g line = cond (eqb e 0) [] (hexLine (e ∷ fourBytes line ++ matching e g))

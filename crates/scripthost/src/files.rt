@@ -21,16 +21,16 @@ fn refuse_files(error: u8)
 // Runs the script, powered on sealed, and prints what this report puts out. A file
 // that breaks its rules, is missing or cannot be read gives the single line 0A, and the reason goes
 // to standard error.
-pub fn run_files(wanted: u8) {
+pub fn run_files(report: u8) {
     let mut bytes = [0u8; MAX_IMAGE_LENGTH];
     let found = load(b"image.hex", &mut bytes);
     let fd = open();
-    let parsed = parse(fd, wanted);
+    let parsed = parse(fd, report);
     if found.error == 0 {
         if parsed.good {
             let n = found.length;
             let layout = found.layout;
-            run_script(fd, layout, wanted, &mut bytes[0..n], parsed);
+            run_script(fd, layout, report, &mut bytes[0..n], parsed);
             return;
         }
     }

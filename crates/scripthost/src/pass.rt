@@ -7,7 +7,6 @@ use gaugestate::state::power_on;
 use hostio::input::Got;
 use hostio::input::read_some;
 use hostio::output::print;
-use hostio::output::report;
 use scriptrules::answer::Progress;
 use scriptrules::session::Session;
 use scriptrunner::run::run;
@@ -82,7 +81,7 @@ fn refill(fd: i32, buffer: &mut [u8], from: usize, to: usize) -> Refilled
 // put out.
 fn run_held(
     layout: Layout,
-    wanted: u8,
+    report: u8,
     image: &mut [u8],
     session: Session,
     buffer: &[u8],
@@ -91,10 +90,10 @@ fn run_held(
     out: &mut [u8],
 ) -> Progress
     requires { ⌜ (from ≤ to) × (to ≤ length (now buffer)) ⌝ }
-    ensures { λ r. ⌜ outcome r (lend (now (image .exit)) (now (out .exit))) ≡ run layout wanted (now (image .entry)) session (held (now (buffer .entry)) from to) (now (out .entry)) ⌝ }
+    ensures { λ r. ⌜ outcome r (lend (now (image .exit)) (now (out .exit))) ≡ run layout report (now (image .entry)) session (held (now (buffer .entry)) from to) (now (out .entry)) ⌝ }
     ensures { λ r. ⌜ (from + r .next ≤ to) × (r .length ≤ length (now (out .entry))) ⌝ }
 {
-    run(layout, wanted, image, session, &buffer[from..to], out)
+    run(layout, report, image, session, &buffer[from..to], out)
 }
 
 // What is held is run, and what that puts out is printed; where no line of it could be run, more
@@ -102,7 +101,7 @@ fn run_held(
 fn turn(
     fd: i32,
     layout: Layout,
-    wanted: u8,
+    report: u8,
     image: &mut [u8],
     session: Session,
     buffer: &mut [u8],
@@ -112,9 +111,9 @@ fn turn(
 ) -> Held
     requires { ⌜ (from ≤ to) × (to ≤ length (now buffer)) ⌝ }
     ensures { λ r. ⌜ (r .from ≤ r .to) × (r .to ≤ length (now (buffer .entry))) ⌝ }
-    ensures { λ r. ⌜ Turned layout wanted (now (out .entry)) (bench session (now (image .entry))) (held (now (buffer .entry)) from to) (bench (r .session) (now (image .exit))) (held (now (buffer .exit)) (r .from) (r .to)) ⌝ }
+    ensures { λ r. ⌜ Turned layout report (now (out .entry)) (bench session (now (image .entry))) (held (now (buffer .entry)) from to) (bench (r .session) (now (image .exit))) (held (now (buffer .exit)) (r .from) (r .to)) ⌝ }
 {
-    let ran = run_held(layout, wanted, image, session, &buffer[..], from, to, out);
+    let ran = run_held(layout, report, image, session, &buffer[..], from, to, out);
     let after = ran.session;
     let next = from + ran.next;
     if ran.next == 0 {
@@ -149,12 +148,12 @@ struct Ended {
 fn turns(
     fd: i32,
     layout: Layout,
-    wanted: u8,
+    report: u8,
     image: &mut [u8],
     buffer: &mut [u8],
     out: &mut [u8],
 ) -> Ended
-    ensures { λ r. ⌜ Passed layout wanted (freshBench (now (image .entry))) (now (image .exit)) (r .held) ⌝ }
+    ensures { λ r. ⌜ Passed layout report (freshBench (now (image .entry))) (now (image .exit)) (r .held) ⌝ }
 {
     let mut session = begin(power_on(BOOT_SEALED));
     let mut from = 0;
@@ -162,7 +161,7 @@ fn turns(
     let mut read: u64 = 0;
     let mut turns = u64::MAX;
     while turns > 0 {
-        let held = turn(fd, layout, wanted, image, session, buffer, from, to, out);
+        let held = turn(fd, layout, report, image, session, buffer, from, to, out);
         session = held.session;
         from = held.from;
         to = held.to;
@@ -184,21 +183,21 @@ fn turns(
 
 // A script that was parsed is run, over an image of the layout. All of it is read again and nothing
 // of it is held at the end, unless the file changed meanwhile.
-pub(crate) fn run_script(fd: i32, layout: Layout, wanted: u8, image: &mut [u8], parsed: Parsed)
+pub(crate) fn run_script(fd: i32, layout: Layout, report: u8, image: &mut [u8], parsed: Parsed)
     requires { ⌜ fits layout (length (now image)) ≡ true ⌝ }
-    requires { ⌜ Fed wanted start 0 0 (parsed .state) (parsed .count) (parsed .lines) ⌝ }
+    requires { ⌜ Fed report start 0 0 (parsed .state) (parsed .count) (parsed .lines) ⌝ }
     requires { ⌜ endError (parsed .state) ≡ 0 ⌝ }
-    requires { ⌜ tooLong wanted (parsed .lines) ≡ false ⌝ }
+    requires { ⌜ tooLong report (parsed .lines) ≡ false ⌝ }
 {
     let mut buffer = io::large_buffer();
     let mut out = io::large_buffer();
-    let ended = turns(fd, layout, wanted, image, &mut buffer, &mut out);
+    let ended = turns(fd, layout, report, image, &mut buffer, &mut out);
     libc::close(fd);
     if ended.held != 0 {
-        report(b"script.hex: not run to its end");
+        hostio::output::report(b"script.hex: not run to its end");
         return;
     }
     if ended.read != parsed.count {
-        report(b"script.hex: not run as it was parsed");
+        hostio::output::report(b"script.hex: not run as it was parsed");
     }
 }

@@ -4,9 +4,10 @@ use mathlib.Core.Path.{_≡_}
 use mathlib.Core.List.{List, [], _∷_, _++_, append-assoc, append-nil}
 use native.Mathlib.Omega.{arith}
 use lib.Dec.{eqb}
+use lib.ListN.{length}
 use borrow.Author.Tests.{eqb-true}
 use Rattle.flashrules.proofs.Picks.{on-test}
-use Rattle.hextext.specs.Hex.{lineFeed}
+use Rattle.hextext.specs.Hex.{hex, hexLine, lineFeed}
 use Rattle.scriptrules.specs.Frame.{Frame, frameBytes, lineOf, linesAfter, linesOf}
 use Rattle.scriptrules.proofs.FrameLaws.{digit-other, Digits, hex-digits}
 
@@ -14,6 +15,10 @@ use Rattle.scriptrules.proofs.FrameLaws.{digit-other, Digits, hex-digit
 lines-digits : (line x y : List ℕ) → Digits x → linesAfter line (x ++ y) ≡ linesAfter (line ++ x) y
 lines-digits line [] y d = rw append-nil
 lines-digits line (c ∷ x) y d = rw (digit-other c (d .0), lines-digits (line ++ (c ∷ [])) x y (d .1), append-assoc)
+
+-- a line of digits is one
+pub lines-one : (bs : List ℕ) → length (linesOf (hexLine bs)) ≡ 1
+lines-one bs = rw (lines-digits [] (hex bs) (lineFeed ∷ []) (hex-digits bs))
 
 pub lines-line : (f : Frame) (y : List ℕ) → linesOf (lineOf f ++ (lineFeed ∷ y)) ≡ lineOf f ∷ linesOf y
 lines-line f y = lines-digits [] (lineOf f) (lineFeed ∷ y) (hex-digits (frameBytes f))

@@ -1,30 +1,34 @@
 -- The named line is the true one: the history of a script leads from power-on to the gauge that the
 -- refused byte met, write by write, and what is claimed of a write's history is so of all of it.
 use Prim.Native.Nat.{ℕ, _+_, _≤_}
-use mathlib.Core.Path.{_≡_, refl, sym}
+use mathlib.Core.Path.{_≡_, refl, sym, _∙_}
 use mathlib.Core.Logic.{_⊎_, inl, inr, ⊎-elim}
-use mathlib.Core.Bool.{true, true≢false}
+use mathlib.Core.Bool.{true, cond, true≢false}
 use mathlib.Core.List.{List, [], _∷_, _++_, append-assoc, append-nil}
 use native.Mathlib.Omega.{arith}
+use lib.Dec.{eqb}
 use lib.ListN.{length}
 use Rattle.flashrules.specs.Error.{protectedBlock, wrongChecksum}
 use Rattle.flashrules.specs.Layout.{fits}
 use Rattle.flashrules.specs.declared.layout.Layout.{Layout}
+use Rattle.flashrules.proofs.Picks.{on-test}
 use Rattle.gaugerules.specs.State.{bootSealed, powerOn, loadedOf}
 use Rattle.gaugerules.specs.Transfer.{isProtected}
 use Rattle.gaugerules.specs.Script.{Device, afterCall}
 use Rattle.gaugerules.specs.declared.state.Gauge.{Gauge}
 use Rattle.gaugerules.proofs.Laws.{write-length}
 use Rattle.causerules.specs.History.{Step, writeSteps}
-use Rattle.causerules.specs.Cause.{latest, gives, reasonOf, lineFor}
+use Rattle.causerules.specs.Cause.{latest, gives, reasonOf, lineFor, fourBytes, matching, causeText}
 use Rattle.causerules.specs.Laws.{EachStep, Leads, OfLine, holdsFor, gaveFor, Since, FromOne, Tells}
 use Rattle.causerules.specs.declared.reason.Reason.{Reason}
 use Rattle.causerules.proofs.Laws.{write-history, reason-holds, latest-since, reason-told}
-use Rattle.scriptrules.specs.Frame.{Frame, writeFrame, readFrame}
+use Rattle.scriptrules.specs.Frame.{Frame, writeFrame, readFrame, linesOf}
 use Rattle.scriptrules.specs.Reply.{afterFrame, afterFrames}
 use Rattle.scriptrules.specs.Replay.{poweredOn}
-use Rattle.scriptrules.specs.Why.{frameSteps, history, explanations}
-use Rattle.scriptrules.specs.WhyLaws.{ExplainedEach, answerAfter, historyUpTo, namedLine, CauseTrue, CausedByLine}
+use Rattle.scriptrules.specs.Why.{frameSteps, history, explanation, explanations}
+use Rattle.scriptrules.specs.WhyLaws.{ExplainedEach, ExplainedCount, answerAfter, historyUpTo, namedLine, CauseTrue, CausedByLine}
+use Rattle.scriptrules.proofs.LineLaws.{lines-append}
+use Rattle.scriptrules.proofs.WholeLines.{lines-one}
 
 -- ---- frames one behind the other
 
@@ -38,6 +42,21 @@ explained-behind l d h line (f ∷ fs) gs =
 
 pub explained-each : ExplainedEach
 explained-each l d fs f gs = explained-behind l d [] 1 fs (f ∷ gs)
+
+-- ---- a line for each refused write
+
+cause-lines : (e : ℕ) (g : Gauge) (line : ℕ) → length (linesOf (causeText e g line)) ≡ cond (eqb e 0) 0 1
+unfolding causeText
+cause-lines e g line = on-test (eqb e 0) (λ p. rw p) (λ p. rw p (lines-one (e ∷ fourBytes line ++ matching e g)))
+
+pub explained-count : ExplainedCount
+unfolding explanation
+explained-count l d h line [] = refl
+explained-count l d h line (writeFrame r bytes ∷ fs) =
+    let f = writeFrame r bytes in
+    lines-append (explanation l d h line f) _
+    ∙ rw (cause-lines _ _ _, explained-count l (afterFrame l d f) (h ++ frameSteps l d line f) (line + 1) fs)
+explained-count l d h line (readFrame r n ∷ fs) = explained-count l (afterFrame l d (readFrame r n)) (h ++ []) (line + 1) fs
 
 -- ---- the history of frames
 

@@ -4,8 +4,9 @@
 use Prim.Native.Nat.{ℕ, _+_}
 use mathlib.Core.Path.{_≡_}
 use mathlib.Core.Logic.{_⊎_}
-use mathlib.Core.Bool.{true}
+use mathlib.Core.Bool.{true, cond}
 use mathlib.Core.List.{List, [], _∷_, _++_}
+use lib.Dec.{eqb}
 use lib.ListN.{length}
 use Rattle.flashrules.specs.Error.{protectedBlock, wrongChecksum}
 use Rattle.flashrules.specs.Layout.{fits}
@@ -18,7 +19,7 @@ use Rattle.causerules.specs.History.{Step, writeSteps}
 use Rattle.causerules.specs.Cause.{reasonOf, cause}
 use Rattle.causerules.specs.Laws.{holdsFor, gaveFor, Since}
 use Rattle.causerules.specs.declared.reason.Reason.{Reason}
-use Rattle.scriptrules.specs.Frame.{Frame}
+use Rattle.scriptrules.specs.Frame.{Frame, writeFrame, readFrame, linesOf}
 use Rattle.scriptrules.specs.Reply.{afterFrame, afterFrames}
 use Rattle.scriptrules.specs.Replay.{poweredOn}
 use Rattle.scriptrules.specs.Why.{frameSteps, history, explanation, explanations}
@@ -32,6 +33,20 @@ ExplainedEach =
     explanations l d [] 1 (fs ++ (f ∷ gs))
     ≡ explanations l d [] 1 fs
     ++ (explanation l d′ h line f ++ explanations l (afterFrame l d′ f) (h ++ frameSteps l d′ line f) (line + 1) gs)
+
+-- how many writes of these frames are refused
+abbrev pub refusedWrites : Layout → Device → List Frame → ℕ
+refusedWrites l d [] = 0
+refusedWrites l d (writeFrame r bytes ∷ fs) =
+    cond (eqb (write l (d .image) (d .gauge) r bytes .answer .error) 0) 0 1
+    + refusedWrites l (afterFrame l d (writeFrame r bytes)) fs
+refusedWrites l d (readFrame r n ∷ fs) = refusedWrites l (afterFrame l d (readFrame r n)) fs
+
+-- "one hexadecimal line a refused write"
+abbrev pub ExplainedCount : Type 0
+ExplainedCount =
+    (l : Layout) (d : Device) (h : List Step) (line : ℕ) (fs : List Frame)
+    → length (linesOf (explanations l d h line fs)) ≡ refusedWrites l d fs
 
 -- a write that comes after these frames, powered on sealed: its answer
 abbrev pub answerAfter : Layout → List ℕ → List Frame → ℕ → List ℕ → Written

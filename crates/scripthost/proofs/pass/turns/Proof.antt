@@ -11,10 +11,10 @@ use Rattle.scripthost.proofs.pass.turns.Statement.{statement}
 use Rattle.scripthost.proofs.pass.turns.Tie as tie
 
 abbrev Inv-loop : tie.InvT-loop
-Inv-loop fd layout wanted image₀ buffer₀ out₀ session₀ from₀ to₀ read₀ turns₀ image buffer out session from to read turns = ByEvents layout wanted (freshBench image₀) [] (bench session image) (held buffer from to) × (from ≤ to) × (to ≤ length buffer) × (length buffer ≡ length buffer₀) × (length image ≡ length image₀) × (length out ≡ length out₀)
+Inv-loop fd layout report image₀ buffer₀ out₀ session₀ from₀ to₀ read₀ turns₀ image buffer out session from to read turns = ByEvents layout report (freshBench image₀) [] (bench session image) (held buffer from to) × (from ≤ to) × (to ≤ length buffer) × (length buffer ≡ length buffer₀) × (length image ≡ length image₀) × (length out ≡ length out₀)
 
 abbrev μ-loop : tie.MeasureT-loop
-μ-loop fd layout wanted image₀ buffer₀ out₀ session₀ from₀ to₀ read₀ turns₀ image buffer out session from to read turns = turns
+μ-loop fd layout report image₀ buffer₀ out₀ session₀ from₀ to₀ read₀ turns₀ image buffer out session from to read turns = turns
 
 pub turns-spec : {M : Type 1} → statement M
 turns-spec =

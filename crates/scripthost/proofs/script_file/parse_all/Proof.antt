@@ -10,11 +10,11 @@ use Rattle.scripthost.proofs.script_file.parse_all.Statement.{statement
 use Rattle.scripthost.proofs.script_file.parse_all.Tie as tie
 
 abbrev Inv-loop : tie.InvT-loop
-Inv-loop fd wanted buffer₀ turn₀ turns₀ buffer turn turns =
-    Fed wanted start 0 0 (turn .state) (turn .count) (turn .lines) × (length buffer ≡ length buffer₀)
+Inv-loop fd report buffer₀ turn₀ turns₀ buffer turn turns =
+    Fed report start 0 0 (turn .state) (turn .count) (turn .lines) × (length buffer ≡ length buffer₀)
 
 abbrev μ-loop : tie.MeasureT-loop
-μ-loop fd wanted buffer₀ turn₀ turns₀ buffer turn turns = turns
+μ-loop fd report buffer₀ turn₀ turns₀ buffer turn turns = turns
 
 pub parse-all-spec : {M : Type 1} → statement M
 parse-all-spec =

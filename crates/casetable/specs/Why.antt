@@ -7,7 +7,7 @@ use Rattle.scriptrules.specs.Why.{why}
 use Rattle.casetable.specs.Lines.{linesText}
 use Rattle.casetable.specs.Session.{image}
 
--- refused are lines 1, 3, 6, 8, 10, 11, 14, 15 and 16
+-- refused are lines 1, 3, 6, 8, 10, 11, 14, 15, 16, 19, 20 and 21
 abbrev pub refusedScript : List ℕ
 refusedScript =
     linesText
@@ -27,9 +27,15 @@ refusedScript =
     ∷ (0x01 ∷ 0x60 ∷ 0xFE ∷ [])
     ∷ (0x01 ∷ 0x60 ∷ 0xFD ∷ 0x00 ∷ 0x00 ∷ [])
     ∷ (0x01 ∷ 0x40 ∷ [])
+    ∷ (0x01 ∷ 0x00 ∷ 0x20 ∷ 0x00 ∷ [])
+    ∷ (0x01 ∷ 0x00 ∷ 0x20 ∷ 0x00 ∷ [])
+    ∷ (0x01 ∷ 0x3F ∷ 0x04 ∷ [])
+    ∷ (0x01 ∷ 0x3E ∷ 0x30 ∷ [])
+    ∷ (0x01 ∷ 0x40 ∷ 0x55 ∷ [])
     ∷ [])
 
--- 3, 7, 9, 6, 4, 5, 8, 2 and 1, each with the line that caused it; behind 8 the checksum
+-- 3, 7, 9, 6, 4, 5, 8, 2 and 1, each with the line that caused it; behind 8 the checksum. Then 5
+-- without general access, 3 after two lines that seal, and 6 after an unload in a refused write
 abbrev pub causes : List ℕ
 causes =
     linesText
@@ -42,6 +48,9 @@ causes =
     ∷ (0x08 ∷ 0x00 ∷ 0x00 ∷ 0x00 ∷ 0x0D ∷ 0xFD ∷ [])
     ∷ (0x02 ∷ 0x00 ∷ 0x00 ∷ 0x00 ∷ 0x0F ∷ [])
     ∷ (0x01 ∷ 0x00 ∷ 0x00 ∷ 0x00 ∷ 0x10 ∷ [])
+    ∷ (0x05 ∷ 0x00 ∷ 0x00 ∷ 0x00 ∷ 0x13 ∷ [])
+    ∷ (0x03 ∷ 0x00 ∷ 0x00 ∷ 0x00 ∷ 0x11 ∷ [])
+    ∷ (0x06 ∷ 0x00 ∷ 0x00 ∷ 0x00 ∷ 0x0F ∷ [])
     ∷ [])
 
 abbrev pub CausesHold : Type 0

@@ -23,6 +23,27 @@ use Rattle.causerules.specs.declared.notes.Notes.{Notes}
 
 -- ---- the bytes of a write
 
+-- n bytes were accepted before
+run-history : (l : Layout) (line : ℕ) (bs image : List ℕ) (g : Gauge) (r n c : ℕ) → let w = writeBytes l image g r n c bs .answer in
+    let h = byteSteps l image g line r bs in
+    (length h + n ≡ w .accepted) × Leads g h (w .gauge)
+unfolding writeBytes byteSteps outcome
+run-history l line [] image g r n c = (omega arith, refl)
+run-history l line (b ∷ bs) image g r n c =
+    let s = writeByte l image g r b in
+    let rest = run-history l line bs (s .lent) (s .answer .gauge) (r + 1) (n + 1) (c + s .answer .changed) in
+    on-test (eqb (s .answer .error) 0)
+    (λ p. rw p (omega (arith, rest .0), (refl, rest .1)))
+    (λ p. rw p (omega arith, sym (refused-byte l image g r b (eqb-false (s .answer .error) 0 p) .0)))
+
+whole-history : (l : Layout) (image : List ℕ) (g : Gauge) (line r : ℕ) (bytes : List ℕ) → let w = write l image g r bytes .answer in
+    let h = writeSteps l image g line r bytes in
+    Leads g h (w .gauge) × (length h ≡ w .accepted)
+unfolding write writeSteps outcome
+whole-history l image g line r bytes =
+    let run = run-history l line bytes image g r 0 0 in
+    on-test (eqb (callError l (length image) g r (length bytes)) 0) (λ p. rw p (run .1, omega (arith, run .0))) (λ p. rw p (refl, refl))
+
 -- what holds of every byte, whatever gauge and image it meets, holds of each one of a history
 module _ (l : Layout) (line : ℕ) (Q : Step → Type 0)
     (q : (image : List ℕ) (g : Gauge) (r b : ℕ) → Q (step line r g (writeByte l image g r b .answer .gauge))) where
@@ -37,27 +58,6 @@ module _ (l : Layout) (line : ℕ) (Q : Step → Type 0)
   unfolding writeSteps
   each-write image g r bytes =
       on-cond (EachStep Q) (eqb (callError l (length image) g r (length bytes)) 0) _ _ (λ _. each-byte bytes image g r) (λ _. tt)
-
--- n bytes were accepted before
-run-history : (l : Layout) (line : ℕ) (bs image : List ℕ) (g : Gauge) (r n c : ℕ) → let w = writeBytes l image g r n c bs .answer in
-    let h = byteSteps l image g line r bs in
-    Leads g h (w .gauge) × (length h + n ≡ w .accepted)
-unfolding writeBytes byteSteps outcome
-run-history l line [] image g r n c = (refl, omega arith)
-run-history l line (b ∷ bs) image g r n c =
-    let s = writeByte l image g r b in
-    let rest = run-history l line bs (s .lent) (s .answer .gauge) (r + 1) (n + 1) (c + s .answer .changed) in
-    on-test (eqb (s .answer .error) 0)
-    (λ p. rw p ((refl, rest .0), omega (arith, rest .1)))
-    (λ p. rw p (sym (refused-byte l image g r b (eqb-false (s .answer .error) 0 p) .0), omega arith))
-
-whole-history : (l : Layout) (image : List ℕ) (g : Gauge) (line r : ℕ) (bytes : List ℕ) → let w = write l image g r bytes .answer in
-    let h = writeSteps l image g line r bytes in
-    Leads g h (w .gauge) × (length h ≡ w .accepted)
-unfolding write writeSteps outcome
-whole-history l image g line r bytes =
-    let run = run-history l line bytes image g r 0 0 in
-    on-test (eqb (callError l (length image) g r (length bytes)) 0) (λ p. rw p (run .0, omega (arith, run .1))) (λ p. rw p (refl, refl))
 
 pub write-history : WriteHistory
 write-history l image g line r bytes =

@@ -6,7 +6,7 @@ use mathlib.Core.Path.{_≡_}
 use mathlib.Core.List.{List, [], _∷_, _++_}
 use lib.ListN.{length, take, drop}
 use Rattle.flashrules.specs.declared.layout.Layout.{Layout}
-use Rattle.scriptrules.specs.Session.{Bench}
+use Rattle.scriptrules.specs.Session.{Runner}
 use Rattle.scriptrules.specs.Host.{Event, arrives, runs, host, handleAll}
 
 -- the text that is held: the buffer's bytes from one index up to another
@@ -20,20 +20,20 @@ pub record Longer (y x : List ℕ) : Type 0 where
 
 -- one turn leads from a session with its image and a text held to others: the text is run, with
 -- this buffer for the output, and then more may come
-pub record Turned (l : Layout) (report : ℕ) (out : List ℕ) (b : Bench) (x : List ℕ) (b′ : Bench) (x′ : List ℕ) : Type 0 where
+pub record Turned (l : Layout) (report : ℕ) (out : List ℕ) (b : Runner) (x : List ℕ) (b′ : Runner) (x′ : List ℕ) : Type 0 where
   pub more : List ℕ
-  pub bench : handleAll l report (host b x []) (runs out ∷ arrives more ∷ []) .bench ≡ b′
+  pub runner : handleAll l report (host b x []) (runs out ∷ arrives more ∷ []) .runner ≡ b′
   pub text : handleAll l report (host b x []) (runs out ∷ arrives more ∷ []) .held ≡ x′
 
 -- some events lead from the one to the other
-pub record ByEvents (l : Layout) (report : ℕ) (b : Bench) (x : List ℕ) (b′ : Bench) (x′ : List ℕ) : Type 0 where
+pub record ByEvents (l : Layout) (report : ℕ) (b : Runner) (x : List ℕ) (b′ : Runner) (x′ : List ℕ) : Type 0 where
   pub taken : List Event
-  pub bench : handleAll l report (host b x []) taken .bench ≡ b′
+  pub runner : handleAll l report (host b x []) taken .runner ≡ b′
   pub text : handleAll l report (host b x []) taken .held ≡ x′
 
 -- the same where the last text's length and image are told
-pub record Passed (l : Layout) (report : ℕ) (b : Bench) (image′ : List ℕ) (left : ℕ) : Type 0 where
-  pub last : Bench
+pub record Passed (l : Layout) (report : ℕ) (b : Runner) (image′ : List ℕ) (left : ℕ) : Type 0 where
+  pub last : Runner
   pub text : List ℕ
   pub events : ByEvents l report b [] last text
   pub image : last .image ≡ image′

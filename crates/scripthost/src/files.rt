@@ -18,9 +18,9 @@ fn refuse_files(error: u8)
     refuse(error);
 }
 
-// Runs the script, powered on sealed, and prints what this report puts out. A file
-// that breaks its rules, is missing or cannot be read gives the single line 0A, and the reason goes
-// to standard error.
+// Runs the script, powered on sealed, and prints what this report puts out. A file that breaks its
+// rules, is missing or cannot be read gives the single line 0A, and the reason goes to standard
+// error.
 pub fn run_files(report: u8) {
     let mut bytes = [0u8; MAX_IMAGE_LENGTH];
     let found = load(b"image.hex", &mut bytes);

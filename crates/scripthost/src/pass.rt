@@ -20,7 +20,7 @@ ghost use Rattle.flashrules.specs.Layout.{fits};
 ghost use Rattle.flashrules.specs.Outcome.{outcome};
 ghost use Rattle.scriptrules.specs.Run.{lend, run};
 ghost use Rattle.scriptrules.specs.Parser.{start, endError};
-ghost use Rattle.scriptrules.specs.Session.{bench, freshBench, tooLong};
+ghost use Rattle.scriptrules.specs.Session.{runner, freshRunner, tooLong};
 ghost use Rattle.scripthost.specs.Checked.{Fed};
 ghost use Rattle.scripthost.specs.Held.{held, Longer, Turned, Passed};
 
@@ -77,8 +77,7 @@ fn refill(fd: i32, buffer: &mut [u8], from: usize, to: usize) -> Refilled
     }
 }
 
-// The whole lines that are held are run, as many as there is room for what they
-// put out.
+// The whole lines that are held are run, as many as there is room for what they put out.
 fn run_held(
     layout: Layout,
     report: u8,
@@ -111,7 +110,7 @@ fn turn(
 ) -> Held
     requires { ⌜ (from ≤ to) × (to ≤ length (now buffer)) ⌝ }
     ensures { λ r. ⌜ (r .from ≤ r .to) × (r .to ≤ length (now (buffer .entry))) ⌝ }
-    ensures { λ r. ⌜ Turned layout report (now (out .entry)) (bench session (now (image .entry))) (held (now (buffer .entry)) from to) (bench (r .session) (now (image .exit))) (held (now (buffer .exit)) (r .from) (r .to)) ⌝ }
+    ensures { λ r. ⌜ Turned layout report (now (out .entry)) (runner session (now (image .entry))) (held (now (buffer .entry)) from to) (runner (r .session) (now (image .exit))) (held (now (buffer .exit)) (r .from) (r .to)) ⌝ }
 {
     let ran = run_held(layout, report, image, session, &buffer[..], from, to, out);
     let after = ran.session;
@@ -153,7 +152,7 @@ fn turns(
     buffer: &mut [u8],
     out: &mut [u8],
 ) -> Ended
-    ensures { λ r. ⌜ Passed layout report (freshBench (now (image .entry))) (now (image .exit)) (r .held) ⌝ }
+    ensures { λ r. ⌜ Passed layout report (freshRunner (now (image .entry))) (now (image .exit)) (r .held) ⌝ }
 {
     let mut session = begin(power_on(BOOT_SEALED));
     let mut from = 0;

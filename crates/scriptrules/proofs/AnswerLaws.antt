@@ -13,7 +13,7 @@ use Rattle.flashrules.specs.declared.layout.Layout.{Layout}
 use Rattle.scriptrules.specs.Frame.{Frame, lineOf, frameOf}
 use Rattle.scriptrules.specs.Parser.{isFrame}
 use Rattle.scriptrules.specs.Reply.{maxReply}
-use Rattle.scriptrules.specs.Session.{Bench, freshBench, frameText, afterLine, outputs}
+use Rattle.scriptrules.specs.Session.{Runner, freshRunner, frameText, afterLine, outputs}
 use Rattle.flashrules.specs.Outcome.{outcome}
 use Rattle.scriptrules.specs.Run.{lend, lineError, answered, runFrame, runLine}
 use Rattle.scriptrules.specs.Laws.{Sendable, AllSendable, oneByOne, OneByOne}
@@ -22,7 +22,7 @@ use Rattle.scriptrules.proofs.SessionLaws.{output-length, output-whole}
 
 -- ---- one line
 
-module _ (l : Layout) (report : ℕ) (b : Bench) (line buffer : List ℕ) (at : ℕ) where
+module _ (l : Layout) (report : ℕ) (b : Runner) (line buffer : List ℕ) (at : ℕ) where
   pub answer-runs : isFrame line ≡ true → at + maxReply ≤ length buffer
       → runLine l report (b .image) (b .session) line buffer at ≡ runFrame l report b (frameOf line) buffer at
   unfolding runLine lineError
@@ -40,13 +40,13 @@ module _ (l : Layout) (report : ℕ) (b : Bench) (line buffer : List ℕ) (at : 
 
 -- ---- a frame at a time
 
-answer-frame : (l : Layout) (report : ℕ) (b : Bench) (f : Frame) (buffer : List ℕ) (at : ℕ) → Sendable f → at + maxReply ≤ length buffer
+answer-frame : (l : Layout) (report : ℕ) (b : Runner) (f : Frame) (buffer : List ℕ) (at : ℕ) → Sendable f → at + maxReply ≤ length buffer
     → runLine l report (b .image) (b .session) (lineOf f) buffer at ≡ runFrame l report b f buffer at
 answer-frame l report b f buffer at s h =
     let p = accepted-line (lineOf f) f .1 (record { sendable = s; text = refl }) in
     answer-runs l report b (lineOf f) buffer at (p .0) h ∙ rw (p .1)
 
-each-alone : (l : Layout) (report : ℕ) (b : Bench) (buffer : List ℕ) (fs : List Frame) → AllSendable fs → maxReply ≤ length buffer
+each-alone : (l : Layout) (report : ℕ) (b : Runner) (buffer : List ℕ) (fs : List Frame) → AllSendable fs → maxReply ≤ length buffer
     → oneByOne l report b buffer fs ≡ outputs l report b fs
 unfolding runFrame outcome
 each-alone l report b buffer [] s h = refl
@@ -60,4 +60,4 @@ each-alone l report b buffer (f ∷ fs) s h =
 
 pub one-by-one : OneByOne
 one-by-one report x y buffer l bytes fs p q t h =
-    each-alone l report (freshBench bytes) buffer fs (accepted-script y fs .0 q .sendable) h ∙ output-whole report x y l bytes fs p q t
+    each-alone l report (freshRunner bytes) buffer fs (accepted-script y fs .0 q .sendable) h ∙ output-whole report x y l bytes fs p q t

@@ -10,7 +10,7 @@ use Rattle.hextext.proofs.StoreLaws.{sets-start}
 use Rattle.flashrules.specs.declared.layout.Layout.{Layout}
 use Rattle.scriptrules.specs.Frame.{serializeScript, linesOf, framesOf}
 use Rattle.scriptrules.specs.Parser.{start, feed, endError, script, parseScript}
-use Rattle.scriptrules.specs.Session.{Bench, bench, freshBench, outputs}
+use Rattle.scriptrules.specs.Session.{Runner, runner, freshRunner, outputs}
 use Rattle.flashrules.specs.Outcome.{Outcome}
 use Rattle.scriptrules.specs.Run.{Lent, run}
 use Rattle.scriptrules.specs.Host.{Event, arrives, runs, host, handleAll, arrived}
@@ -25,9 +25,9 @@ unfolding parseScript
 parse-frames y e = rw (eq-eqb _ _ e)
 
 -- what one call printed and what is still to be run, of a text held and one to come
-run-prints : (l : Layout) (report : ℕ) (b : Bench) (held more buffer : List ℕ) (s : Outcome Progress Lent) → Ran l report b held buffer s
+run-prints : (l : Layout) (report : ℕ) (b : Runner) (held more buffer : List ℕ) (s : Outcome Progress Lent) → Ran l report b held buffer s
     → let left = framesOf (linesOf (drop (s .answer .next) held ++ more)) in
-    take (s .answer .length) (s .lent .buffer) ++ outputs l report (bench (s .answer .session) (s .lent .image)) left ≡ outputs l report b (framesOf (linesOf (held ++ more)))
+    take (s .answer .length) (s .lent .buffer) ++ outputs l report (runner (s .answer .session) (s .lent .image)) left ≡ outputs l report b (framesOf (linesOf (held ++ more)))
 run-prints l report b held more buffer s w =
     let fs = w .frames in
     let rest = drop (s .answer .next) held in
@@ -35,14 +35,14 @@ run-prints l report b held more buffer s w =
     let out : take (s .answer .length) (s .lent .buffer) ≡ outputs l report b fs = rw (w .output, w .size) (sets-start buffer (outputs l report b fs) (omega arith)) in
     rw (← whole, frames-script fs (rest ++ more) (w .text .sendable), outputs-append, out, w .after)
 
-prints : (l : Layout) (report : ℕ) (ss : List Event) (b : Bench) (held printed : List ℕ) → let h = handleAll l report (host b held printed) ss in
+prints : (l : Layout) (report : ℕ) (ss : List Event) (b : Runner) (held printed : List ℕ) → let h = handleAll l report (host b held printed) ss in
     h .held ≡ [] → h .printed ≡ printed ++ outputs l report b (framesOf (linesOf (held ++ arrived ss)))
 prints l report [] b held printed e = rw (e, append-nil)
 prints l report (arrives x ∷ ss) b held printed e = rw append-assoc at (prints l report ss b (held ++ x) printed e)
 prints l report (runs buffer ∷ ss) b held printed e =
     let s = run l report (b .image) (b .session) held buffer in
     let p = run-prints l report b held (arrived ss) buffer s (run-frames l report b held buffer) in
-    prints l report ss (bench (s .answer .session) (s .lent .image)) (drop (s .answer .next) held) (printed ++ take (s .answer .length) (s .lent .buffer)) e
+    prints l report ss (runner (s .answer .session) (s .lent .image)) (drop (s .answer .next) held) (printed ++ take (s .answer .length) (s .lent .buffer)) e
     ∙ rw (append-assoc, p)
 
 -- there are as many frames as lines
@@ -53,5 +53,5 @@ frames-length (x ∷ xs) = ap suc (frames-length xs)
 pub host-prints : HostPrints
 host-prints report x y l bytes ss p q t a e =
     let fs = framesOf (linesOf y) in
-    rw a at (prints l report ss (freshBench bytes) [] [] e)
+    rw a at (prints l report ss (freshRunner bytes) [] [] e)
     ∙ output-whole report x y l bytes fs p (parse-frames y q) (rw frames-length t)

@@ -17,7 +17,7 @@ use Rattle.hextext.specs.Hex.{lineFeed}
 use Rattle.scriptrules.specs.Frame.{Frame, lineOf, serializeScript, linesOf, frameOf}
 use Rattle.scriptrules.specs.Parser.{isFrame}
 use Rattle.scriptrules.specs.Reply.{maxReply}
-use Rattle.scriptrules.specs.Session.{Bench, bench, frameText, afterLine, outputs, afterLines}
+use Rattle.scriptrules.specs.Session.{Runner, runner, frameText, afterLine, outputs, afterLines}
 use Rattle.flashrules.specs.Outcome.{Outcome, outcome}
 use Rattle.scriptrules.specs.Run.{Lent, lend, runFrame, progress, runLines, run}
 use Rattle.scriptrules.specs.Laws.{Sendable, AllSendable, IsLine, Ran, RunFrames}
@@ -38,7 +38,7 @@ record Stop (rest : List ℕ) (room e n : ℕ) : Type 0 where
   full : e ≡ shortBuffer → room < n + maxReply
 
 -- what is claimed of a run over a text that begins at `next`, with n characters of output before
-record Went (l : Layout) (report : ℕ) (b : Bench) (x buffer : List ℕ) (next n : ℕ) (s : Outcome Progress Lent) : Type 0 where
+record Went (l : Layout) (report : ℕ) (b : Runner) (x buffer : List ℕ) (next n : ℕ) (s : Outcome Progress Lent) : Type 0 where
   frames : List Frame
   rest : List ℕ
   sendable : AllSendable frames
@@ -47,10 +47,10 @@ record Went (l : Layout) (report : ℕ) (b : Bench) (x buffer : List ℕ) (next 
   output : s .lent .buffer ≡ sets buffer n (outputs l report b frames)
   size : s .answer .length ≡ n + length (outputs l report b frames)
   inside : s .answer .length ≤ length buffer
-  after : bench (s .answer .session) (s .lent .image) ≡ afterLines l report b frames
+  after : runner (s .answer .session) (s .lent .image) ≡ afterLines l report b frames
   stop : Stop rest (length buffer) (s .answer .error) (s .answer .length)
 
-module _ (l : Layout) (report : ℕ) (b : Bench) where
+module _ (l : Layout) (report : ℕ) (b : Runner) where
   -- it ends at once
   went-none : (x buffer : List ℕ) (next n e : ℕ) → n ≤ length buffer → Stop x (length buffer) e n
       → Went l report b x buffer next n (outcome (progress e (b .session) next n) (lend (b .image) buffer))
@@ -110,7 +110,7 @@ module _ (l : Layout) (report : ℕ) where
   -- what is claimed of the run over these lines
   abbrev Goes : List (List ℕ) → Type 0
   Goes lines =
-      (b : Bench) (x buffer : List ℕ) (next n : ℕ) → linesOf x ≡ lines → n ≤ length buffer
+      (b : Runner) (x buffer : List ℕ) (next n : ℕ) → linesOf x ≡ lines → n ≤ length buffer
       → Went l report b x buffer next n (runLines l report (b .image) (b .session) lines buffer next n)
 
   one-more : (z : List ℕ) (zs : List (List ℕ)) → Goes zs → Goes (z ∷ zs)

@@ -28,7 +28,7 @@ use Rattle.scriptrules.specs.Frame.{Frame, writeFrame, readFrame}
 use Rattle.scriptrules.specs.Reply.{maxReply, replies, afterFrame}
 use Rattle.scriptrules.specs.Replay.{replay}
 use Rattle.scriptrules.specs.Why.{frameSteps, explanation, explanations, why}
-use Rattle.scriptrules.specs.Session.{reportCauses, Bench, freshBench, deviceOf, trackFrame, notedText}
+use Rattle.scriptrules.specs.Session.{reportCauses, Runner, freshRunner, deviceOf, trackFrame, notedText}
 use Rattle.scriptrules.specs.Session.{frameText, afterLine, outputs, afterLines}
 use Rattle.scriptrules.specs.Laws.{OutputLength, OutputWhole}
 use Rattle.scriptrules.proofs.ReplyLaws.{reply-length}
@@ -46,7 +46,7 @@ pub tracked-length : (t : Tracked) → length (trackedText t) ≤ maxReply
 unfolding trackedText
 tracked-length t = cause-length _ _ _
 
-noted-length : (l : Layout) (b : Bench) (f : Frame) → length (notedText l b f) ≤ maxReply
+noted-length : (l : Layout) (b : Runner) (f : Frame) → length (notedText l b f) ≤ maxReply
 noted-length l b (writeFrame r bytes) = tracked-length (trackFrame l b r bytes .answer)
 noted-length l b (readFrame r n) = omega arith
 
@@ -57,13 +57,13 @@ output-length l report b f =
 
 -- ---- frames one behind the other
 
-pub outputs-append : (l : Layout) (report : ℕ) (b : Bench) (fs gs : List Frame) → outputs l report b (fs ++ gs) ≡ outputs l report b fs ++ outputs l report (afterLines l report b fs) gs
+pub outputs-append : (l : Layout) (report : ℕ) (b : Runner) (fs gs : List Frame) → outputs l report b (fs ++ gs) ≡ outputs l report b fs ++ outputs l report (afterLines l report b fs) gs
 outputs-append l report b [] gs = refl
 outputs-append l report b (f ∷ fs) gs = rw (outputs-append l report (afterLine l report b f) fs gs, append-assoc)
 
 -- ---- a session that reports replies
 
-reports-replies : (l : Layout) (report : ℕ) (b : Bench) (fs : List Frame) → eqb report reportCauses ≡ false → outputs l report b fs ≡ replies l (deviceOf b) fs
+reports-replies : (l : Layout) (report : ℕ) (b : Runner) (fs : List Frame) → eqb report reportCauses ≡ false → outputs l report b fs ≡ replies l (deviceOf b) fs
 unfolding frameText afterLine
 reports-replies l report b [] p = refl
 reports-replies l report b (f ∷ fs) p = rw (p, reports-replies l report _ fs p)
@@ -79,7 +79,7 @@ next-remembers n h m Reason.Class = m Reason.Class
 next-remembers n h m Reason.Window = m Reason.Window
 
 -- a frame as the line behind those that were noted
-module _ (l : Layout) (report : ℕ) (b : Bench) (h : List Step) (m : Remembers (b .session .notes) h) (p : eqb report reportCauses ≡ true)
+module _ (l : Layout) (report : ℕ) (b : Runner) (h : List Step) (m : Remembers (b .session .notes) h) (p : eqb report reportCauses ≡ true)
     (few : b .session .notes .line < maxLines) where
   abbrev line : ℕ
   line = b .session .notes .line + 1
@@ -115,7 +115,7 @@ module _ (l : Layout) (report : ℕ) (b : Bench) (h : List Step) (m : Remembers 
       rw p (refl, notes-line n steps ∙ counted, write-remembers r bytes line (sym counted))
   noted-after (readFrame r n) = rw (p, append-nil) (refl, counted, next-remembers (b .session .notes) h m)
 
-reports-causes : (l : Layout) (report : ℕ) (b : Bench) (h : List Step) (fs : List Frame) → eqb report reportCauses ≡ true
+reports-causes : (l : Layout) (report : ℕ) (b : Runner) (h : List Step) (fs : List Frame) → eqb report reportCauses ≡ true
     → Remembers (b .session .notes) h
     → b .session .notes .line + length fs ≤ maxLines
     → outputs l report b fs ≡ explanations l (deviceOf b) h (b .session .notes .line + 1) fs
@@ -142,5 +142,5 @@ output-whole report x y l bytes fs p q t =
     on-test (eqb report reportCauses)
     (λ e.
     let few = ltb-false maxLines (length fs) (rw e at t) in
-    rw (e, p, q, le-ltb maxLines (length fs) few) (reports-causes l report (freshBench bytes) [] fs e (blank-remembers) (omega arith)))
-    (λ e. rw (e, p, q) (reports-replies l report (freshBench bytes) fs e))
+    rw (e, p, q, le-ltb maxLines (length fs) few) (reports-causes l report (freshRunner bytes) [] fs e (blank-remembers) (omega arith)))
+    (λ e. rw (e, p, q) (reports-replies l report (freshRunner bytes) fs e))

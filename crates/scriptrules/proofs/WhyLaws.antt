@@ -2,7 +2,7 @@
 -- refused byte met, write by write, and what is claimed of a write's history is so of all of it.
 use Prim.Native.Nat.{ℕ, _+_, _≤_}
 use mathlib.Core.Path.{_≡_, refl, sym, _∙_}
-use mathlib.Core.Logic.{_⊎_, inl, inr, ⊎-elim}
+use mathlib.Core.Logic.{⊎-elim}
 use mathlib.Core.Bool.{true, cond, true≢false}
 use mathlib.Core.List.{List, [], _∷_, _++_, append-assoc, append-nil}
 use native.Mathlib.Omega.{arith}
@@ -26,7 +26,7 @@ use Rattle.scriptrules.specs.Frame.{Frame, writeFrame, readFrame, linesO
 use Rattle.scriptrules.specs.Reply.{afterFrame, afterFrames}
 use Rattle.scriptrules.specs.Replay.{poweredOn}
 use Rattle.scriptrules.specs.Why.{frameSteps, history, explanation, explanations}
-use Rattle.scriptrules.specs.WhyLaws.{ExplainedEach, ExplainedCount, answerAfter, historyUpTo, namedLine, CauseTrue, CausedByLine}
+use Rattle.scriptrules.specs.WhyLaws.{ExplainedEach, ExplainedCount, answerAfter, historyUpTo, namedLine, TrueLine, CauseTrue, CausedByLine}
 use Rattle.scriptrules.proofs.LineLaws.{lines-append}
 use Rattle.scriptrules.proofs.WholeLines.{lines-one}
 
@@ -128,34 +128,30 @@ module _ (l : Layout) (image : List ℕ) (fs : List Frame) (r : ℕ) (bytes : Li
       each-on Q (history l (poweredOn image) 1 fs) _ (history-each l Q q (poweredOn image) 1 fs (omega arith))
       (q (d .image) (d .gauge) (1 + length fs) r bytes (omega arith))
 
-  since : (why : Reason) → holdsFor why met met ≡ true
-      → ((why ≡ Reason.Itself) × (lineFor why (1 + length fs) h ≡ 1 + length fs))
-      ⊎ Since (gaveFor why met) (holdsFor why met) (powerOn bootSealed) h (lineFor why (1 + length fs) h)
+  abbrev TrueFor : Reason → Type 0
+  TrueFor why = TrueLine (1 + length fs) why met h (lineFor why (1 + length fs) h)
+
+  since : (why : Reason) → holdsFor why met met ≡ true → TrueFor why
   since why p =
       by why
       (latest-since (gives why) (gaveFor why met) (holdsFor why met) (powerOn bootSealed) h met leads
       (each FromOne (λ image g line r bytes k. numbered line (writeSteps l image g line r bytes) k (write-history l image g line r bytes .2)))
       (each (Tells (gives why) (gaveFor why met) (holdsFor why met)) (λ image g line r bytes _. reason-told l image g line r bytes why met)) p)
     where
-      by : (why : Reason) → Since (gaveFor why met) (holdsFor why met) (powerOn bootSealed) h (latest (gives why) h)
-          → ((why ≡ Reason.Itself) × (lineFor why (1 + length fs) h ≡ 1 + length fs))
-          ⊎ Since (gaveFor why met) (holdsFor why met) (powerOn bootSealed) h (lineFor why (1 + length fs) h)
-      by Reason.Itself s = inl (refl, refl)
-      by Reason.Sealed s = inr s
-      by Reason.NothingLoaded s = inr s
-      by Reason.Protected s = inr s
-      by Reason.Class s = inr s
-      by Reason.Window s = inr s
+      by : (why : Reason) → Since (gaveFor why met) (holdsFor why met) (powerOn bootSealed) h (latest (gives why) h) → TrueFor why
+      by Reason.Itself s = record { itself = λ _. refl; began = λ n. absurd (n refl) }
+      by Reason.Sealed s = record { itself = λ e. cc; began = λ _. s }
+      by Reason.NothingLoaded s = record { itself = λ e. cc; began = λ _. s }
+      by Reason.Protected s = record { itself = λ e. cc; began = λ _. s }
+      by Reason.Class s = record { itself = λ e. cc; began = λ _. s }
+      by Reason.Window s = record { itself = λ e. cc; began = λ _. s }
 
-  true-cause : ((reason ≡ Reason.Itself) × (namedLine l image fs r bytes ≡ 1 + length fs))
-      ⊎ Since (gaveFor reason met) (holdsFor reason met) (powerOn bootSealed) h (namedLine l image fs r bytes)
+  true-cause : TrueFor reason
   true-cause = since reason (reason-holds l (d .image) (d .gauge) r bytes (after-fits l (poweredOn image) fs f))
 
   -- what did not hold at power-on began at some line
   from-line : (holdsFor reason met (powerOn bootSealed) ≡ true → ⊥) → namedLine l image fs r bytes ≡ 0 → ⊥
-  from-line n z =
-      ⊎-elim (λ (a : (reason ≡ Reason.Itself) × (namedLine l image fs r bytes ≡ 1 + length fs)). omega (arith, a .1))
-      (λ (s : Since (gaveFor reason met) (holdsFor reason met) (powerOn bootSealed) h (namedLine l image fs r bytes)). n (s .always z .0)) true-cause
+  from-line n z = n (true-cause .began (λ e. omega (arith, true-cause .itself e, z)) .always z .0)
 
 pub cause-true : CauseTrue
 cause-true l image fs r bytes f _ = true-cause l image fs r bytes f

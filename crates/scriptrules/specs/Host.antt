@@ -5,7 +5,7 @@ use Prim.Native.Nat.{ℕ}
 use mathlib.Core.List.{List, [], _∷_, _++_}
 use lib.ListN.{take, drop}
 use Rattle.flashrules.specs.declared.layout.Layout.{Layout}
-use Rattle.scriptrules.specs.Session.{Bench, bench}
+use Rattle.scriptrules.specs.Session.{Runner, runner}
 use Rattle.scriptrules.specs.Run.{run}
 
 -- more of the script comes; `run` is called on what is held, with a buffer
@@ -15,18 +15,18 @@ pub data Event : Type 0 where
 
 -- the session and the image, the text that has come and was not run, and all that was printed
 pub record Host : Type 0 where
-  pub bench : Bench
+  pub runner : Runner
   pub held : List ℕ
   pub printed : List ℕ
 
-abbrev pub host : Bench → List ℕ → List ℕ → Host
-host b held printed = record { bench = b; held = held; printed = printed }
+abbrev pub host : Runner → List ℕ → List ℕ → Host
+host b held printed = record { runner = b; held = held; printed = printed }
 
 abbrev pub handle : Layout → ℕ → Host → Event → Host
-handle l report h (arrives x) = host (h .bench) (h .held ++ x) (h .printed)
+handle l report h (arrives x) = host (h .runner) (h .held ++ x) (h .printed)
 handle l report h (runs buffer) =
-    let o = run l report (h .bench .image) (h .bench .session) (h .held) buffer in
-    host (bench (o .answer .session) (o .lent .image)) (drop (o .answer .next) (h .held))
+    let o = run l report (h .runner .image) (h .runner .session) (h .held) buffer in
+    host (runner (o .answer .session) (o .lent .image)) (drop (o .answer .next) (h .held))
     (h .printed ++ take (o .answer .length) (o .lent .buffer))
 
 abbrev pub handleAll : Layout → ℕ → Host → List Event → Host

@@ -20,7 +20,7 @@ use Rattle.scriptrules.specs.Frame.{Frame, frameBytes, maxFrame, lineOf,
 use Rattle.scriptrules.specs.Parser.{start, feed, endError, isFrame, script, parseScript}
 use Rattle.scriptrules.specs.Reply.{callOf, maxReply, afterFrame, replies, afterFrames}
 use Rattle.scriptrules.specs.Replay.{poweredOn, replay}
-use Rattle.scriptrules.specs.Session.{output, tooLong, countOn, Bench, bench, freshBench, frameText, outputs, afterLines}
+use Rattle.scriptrules.specs.Session.{output, tooLong, countOn, Runner, runner, freshRunner, frameText, outputs, afterLines}
 use Rattle.flashrules.specs.Outcome.{Outcome}
 use Rattle.scriptrules.specs.Run.{Lent, runLine, run}
 use Rattle.scriptrules.specs.Host.{Event, host, handleAll, arrived}
@@ -75,7 +75,7 @@ CountTells = (report lines : ℕ) → tooLong report (countOn report 0 lines) �
 -- ---- what a session puts out
 
 abbrev pub OutputLength : Type 0
-OutputLength = (l : Layout) (report : ℕ) (b : Bench) (f : Frame) → length (frameText l report b f) ≤ maxReply
+OutputLength = (l : Layout) (report : ℕ) (b : Runner) (f : Frame) → length (frameText l report b f) ≤ maxReply
 
 -- frame by frame it is the whole output: the replies of document 01, or C-13's causes, which are
 -- defined by the history and not by notes
@@ -83,7 +83,7 @@ abbrev pub OutputWhole : Type 0
 OutputWhole =
     (report : ℕ) (x y : List ℕ) (l : Layout) (bytes : List ℕ) (fs : List Frame) → parseImage x ≡ imageFile l bytes
     → parseScript y ≡ script fs
-    → tooLong report (length fs) ≡ false → outputs l report (freshBench bytes) fs ≡ output report x y
+    → tooLong report (length fs) ≡ false → outputs l report (freshRunner bytes) fs ≡ output report x y
 
 -- nothing is printed only for an empty script; the image file may be refused, and then it is not
 -- nothing
@@ -93,23 +93,23 @@ NothingPrinted = (x y : List ℕ) → replay x y ≡ [] → y ≡ []
 -- ---- frames run one by one give the output
 
 -- a host that runs a frame at a time, into the same buffer, and prints what each puts out
-abbrev pub oneByOne : Layout → ℕ → Bench → List ℕ → List Frame → List ℕ
+abbrev pub oneByOne : Layout → ℕ → Runner → List ℕ → List Frame → List ℕ
 oneByOne l report b buffer [] = []
 oneByOne l report b buffer (f ∷ fs) =
     let a = runLine l report (b .image) (b .session) (lineOf f) buffer 0 in
     take (a .answer .length) (a .lent .buffer)
-    ++ oneByOne l report (bench (a .answer .session) (a .lent .image)) (a .lent .buffer) fs
+    ++ oneByOne l report (runner (a .answer .session) (a .lent .image)) (a .lent .buffer) fs
 
 abbrev pub OneByOne : Type 0
 OneByOne =
     (report : ℕ) (x y buffer : List ℕ) (l : Layout) (bytes : List ℕ) (fs : List Frame)
     → parseImage x ≡ imageFile l bytes → parseScript y ≡ script fs
     → tooLong report (length fs) ≡ false
-    → maxReply ≤ length buffer → oneByOne l report (freshBench bytes) buffer fs ≡ output report x y
+    → maxReply ≤ length buffer → oneByOne l report (freshRunner bytes) buffer fs ≡ output report x y
 
 -- ---- what `run` did: s is what it left, of a session with its image, a text and a buffer
 
-pub record Ran (l : Layout) (report : ℕ) (b : Bench) (x buffer : List ℕ) (s : Outcome Progress Lent) : Type 0 where
+pub record Ran (l : Layout) (report : ℕ) (b : Runner) (x buffer : List ℕ) (s : Outcome Progress Lent) : Type 0 where
   -- it ran these frames, which the text begins with
   pub frames : List Frame
   pub text : IsScript frames (take (s .answer .next) x)
@@ -118,7 +118,7 @@ pub record Ran (l : Layout) (report : ℕ) (b : Bench) (x buffer : List ℕ) (s 
   pub output : s .lent .buffer ≡ sets buffer 0 (outputs l report b frames)
   pub size : s .answer .length ≡ length (outputs l report b frames)
   pub inside : s .answer .length ≤ length buffer
-  pub after : bench (s .answer .session) (s .lent .image) ≡ afterLines l report b frames
+  pub after : runner (s .answer .session) (s .lent .image) ≡ afterLines l report b frames
   -- and it stopped where no whole line is left, where one is that is no frame, or where there was
   -- no room for one reply more
   pub errors : (s .answer .error ≡ 0) ⊎ ((s .answer .error ≡ malformed) ⊎ (s .answer .error ≡ shortBuffer))
@@ -129,7 +129,7 @@ pub record Ran (l : Layout) (report : ℕ) (b : Bench) (x buffer : List ℕ) (s 
 
 abbrev pub RunFrames : Type 0
 RunFrames =
-    (l : Layout) (report : ℕ) (b : Bench) (x buffer : List ℕ)
+    (l : Layout) (report : ℕ) (b : Runner) (x buffer : List ℕ)
     → Ran l report b x buffer (run l report (b .image) (b .session) x buffer)
 
 -- however a script is cut and whatever buffers are lent: a host that has run all of it has printed
@@ -139,7 +139,7 @@ HostPrints =
     (report : ℕ) (x y : List ℕ) (l : Layout) (bytes : List ℕ) (ss : List Event) → parseImage x ≡ imageFile l bytes
     → endError (feed start y) ≡ 0
     → tooLong report (length (linesOf y)) ≡ false
-    → arrived ss ≡ y → let h = handleAll l report (host (freshBench bytes) [] []) ss in
+    → arrived ss ≡ y → let h = handleAll l report (host (freshRunner bytes) [] []) ss in
     h .held ≡ [] → h .printed ≡ output report x y
 
 -- ---- demand 3, of outputs

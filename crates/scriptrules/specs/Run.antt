@@ -14,7 +14,7 @@ use Rattle.flashrules.specs.declared.layout.Layout.{Layout}
 use Rattle.scriptrules.specs.Frame.{Frame, frameOf, linesOf}
 use Rattle.scriptrules.specs.Parser.{isFrame}
 use Rattle.scriptrules.specs.Reply.{maxReply}
-use Rattle.scriptrules.specs.Session.{Bench, bench, frameText, afterLine}
+use Rattle.scriptrules.specs.Session.{Runner, runner, frameText, afterLine}
 use Rattle.scriptrules.specs.declared.session.Session.{Session}
 use Rattle.scriptrules.specs.declared.answer.Answered.{Answered}
 use Rattle.scriptrules.specs.declared.answer.Progress.{Progress}
@@ -40,7 +40,7 @@ abbrev pub answered : ℕ → Session → ℕ → Answered
 answered e s n = record { error = e; session = s; length = n }
 
 -- a frame is run, and what it puts out goes into the buffer from `at` on
-unfoldable pub runFrame : Layout → ℕ → Bench → Frame → List ℕ → ℕ → Outcome Answered Lent
+unfoldable pub runFrame : Layout → ℕ → Runner → Frame → List ℕ → ℕ → Outcome Answered Lent
 runFrame l report b f buffer at =
     let x = frameText l report b f in
     let b′ = afterLine l report b f in
@@ -49,7 +49,7 @@ runFrame l report b f buffer at =
 unfoldable pub runLine : Layout → ℕ → List ℕ → Session → List ℕ → List ℕ → ℕ → Outcome Answered Lent
 runLine l report image s line buffer at =
     let e = lineError line (length buffer - at) in
-    cond (eqb e 0) (runFrame l report (bench s image) (frameOf line) buffer at) (outcome (answered e s 0) (lend image buffer))
+    cond (eqb e 0) (runFrame l report (runner s image) (frameOf line) buffer at) (outcome (answered e s 0) (lend image buffer))
 
 -- ---- the whole lines of a text
 

@@ -58,57 +58,57 @@ abbrev pub freshSession : Session
 freshSession = session (powerOn bootSealed) blank
 
 -- a session with the image that it is lent
-pub record Bench : Type 0 where
+pub record Runner : Type 0 where
   pub session : Session
   pub image : List ℕ
 
-abbrev pub bench : Session → List ℕ → Bench
-bench s image = record { session = s; image = image }
+abbrev pub runner : Session → List ℕ → Runner
+runner s image = record { session = s; image = image }
 
-abbrev pub freshBench : List ℕ → Bench
-freshBench bytes = bench freshSession bytes
+abbrev pub freshRunner : List ℕ → Runner
+freshRunner bytes = runner freshSession bytes
 
-abbrev pub deviceOf : Bench → Device
+abbrev pub deviceOf : Runner → Device
 deviceOf b = device (b .session .gauge) (b .image)
 
 -- ---- one frame, noted as the next line
 
-unfoldable pub trackFrame : Layout → Bench → ℕ → List ℕ → Outcome Tracked (List ℕ)
+unfoldable pub trackFrame : Layout → Runner → ℕ → List ℕ → Outcome Tracked (List ℕ)
 trackFrame l b r bytes = track l (b .image) (b .session .gauge) (nextLine (b .session .notes)) r bytes
 
 -- a read is a line too
-abbrev pub notedText : Layout → Bench → Frame → List ℕ
+abbrev pub notedText : Layout → Runner → Frame → List ℕ
 notedText l b (writeFrame r bytes) = trackedText (trackFrame l b r bytes .answer)
 notedText l b (readFrame r n) = []
 
-abbrev pub afterNoted : Layout → Bench → Frame → Bench
+abbrev pub afterNoted : Layout → Runner → Frame → Runner
 afterNoted l b (writeFrame r bytes) =
     let t = trackFrame l b r bytes in
-    bench (session (t .answer .gauge) (t .answer .notes)) (t .lent)
+    runner (session (t .answer .gauge) (t .answer .notes)) (t .lent)
 afterNoted l b (readFrame r n) =
-    bench (session (b .session .gauge) (nextLine (b .session .notes))) (b .image)
+    runner (session (b .session .gauge) (nextLine (b .session .notes))) (b .image)
 
 -- ---- one frame, replied to
 
-abbrev pub afterReplied : Layout → Bench → Frame → Bench
+abbrev pub afterReplied : Layout → Runner → Frame → Runner
 afterReplied l b f =
     let d = afterFrame l (deviceOf b) f in
-    bench (session (d .gauge) (b .session .notes)) (d .image)
+    runner (session (d .gauge) (b .session .notes)) (d .image)
 
 -- ---- what a frame puts out, and what it leaves
 
-unfoldable pub frameText : Layout → ℕ → Bench → Frame → List ℕ
+unfoldable pub frameText : Layout → ℕ → Runner → Frame → List ℕ
 frameText l report b f = byReport report (notedText l b f) (replyText l (deviceOf b) f)
 
-unfoldable pub afterLine : Layout → ℕ → Bench → Frame → Bench
+unfoldable pub afterLine : Layout → ℕ → Runner → Frame → Runner
 afterLine l report b f = byReport report (afterNoted l b f) (afterReplied l b f)
 
 -- ---- frames one after the other
 
-abbrev pub outputs : Layout → ℕ → Bench → List Frame → List ℕ
+abbrev pub outputs : Layout → ℕ → Runner → List Frame → List ℕ
 outputs l report b [] = []
 outputs l report b (f ∷ fs) = frameText l report b f ++ outputs l report (afterLine l report b f) fs
 
-abbrev pub afterLines : Layout → ℕ → Bench → List Frame → Bench
+abbrev pub afterLines : Layout → ℕ → Runner → List Frame → Runner
 afterLines l report b [] = b
 afterLines l report b (f ∷ fs) = afterLines l report (afterLine l report b f) fs

@@ -14,6 +14,7 @@ use Rattle.flashrules.specs.declared.layout.Layout.{Layout}
 use Rattle.gaugerules.specs.State.{bootSealed, powerOn}
 use Rattle.gaugerules.specs.Write.{write}
 use Rattle.gaugerules.specs.Script.{Device}
+use Rattle.gaugerules.specs.declared.state.Gauge.{Gauge}
 use Rattle.gaugerules.specs.declared.answer.Written.{Written}
 use Rattle.causerules.specs.History.{Step, writeSteps}
 use Rattle.causerules.specs.Cause.{reasonOf, cause}
@@ -65,17 +66,20 @@ namedLine l image fs r bytes =
     let w = answerAfter l image fs r bytes in
     cause (historyUpTo l image fs r bytes) (1 + length fs) (w .gauge) (w .error)
 
--- what the reason says has held since the named line, or since power-on where that is 0; and where
--- the reason is the line itself, that is named
+-- where the reason is the line itself, that is named; else what the reason says has held since the
+-- named line, or since power-on where that is 0
+pub record TrueLine (line : ℕ) (reason : Reason) (met : Gauge) (h : List Step) (n : ℕ) : Type 0 where
+  pub itself : reason ≡ Reason.Itself → n ≡ line
+  pub began : (reason ≡ Reason.Itself → ⊥)
+      → Since (gaveFor reason met) (holdsFor reason met) (powerOn bootSealed) h n
+
 abbrev pub CauseTrue : Type 0
 CauseTrue =
     (l : Layout) (image : List ℕ) (fs : List Frame) (r : ℕ) (bytes : List ℕ) → fits l (length image) ≡ true
     → let w = answerAfter l image fs r bytes in
-    let reason = reasonOf (w .error) (w .gauge) in
-    let n = namedLine l image fs r bytes in
     (w .error ≡ 0 → ⊥)
-    → ((reason ≡ Reason.Itself) × (n ≡ 1 + length fs))
-    ⊎ Since (gaveFor reason (w .gauge)) (holdsFor reason (w .gauge)) (powerOn bootSealed) (historyUpTo l image fs r bytes) n
+    → TrueLine (1 + length fs) (reasonOf (w .error) (w .gauge)) (w .gauge) (historyUpTo l image fs r bytes)
+    (namedLine l image fs r bytes)
 
 -- block A and a window that can be committed were loaded by some line
 abbrev pub CausedByLine : Type 0

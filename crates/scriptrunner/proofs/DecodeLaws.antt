@@ -13,7 +13,7 @@ use Rattle.flashrules.specs.declared.layout.Layout.{Layout}
 use Rattle.scriptrules.specs.Frame.{writeFrame, readFrame, readKind, maxFrame, frameOf}
 use Rattle.scriptrules.specs.Parser.{isFrame}
 use Rattle.flashrules.specs.Outcome.{Outcome}
-use Rattle.scriptrules.specs.Session.{Bench}
+use Rattle.scriptrules.specs.Session.{Runner}
 use Rattle.scriptrules.specs.Run.{Lent, runFrame}
 use Rattle.scriptrules.specs.declared.answer.Answered.{Answered}
 use Rattle.scriptrules.proofs.ScriptLaws.{frame-least, frame-most, frame-even}
@@ -66,7 +66,7 @@ module _ (line : List ℕ) (e : isFrame line ≡ true) where
     get : (i : ℕ) → getD frame i 0 ≡ getD (unhex line) i 0
     get i = rw decoded (front-get (unhex line) (maxFrame - length (unhex line)) i)
 
-    module _ (l : Layout) (report : ℕ) (b : Bench) (buffer : List ℕ) (at : ℕ) (z : Outcome Answered Lent) where
+    module _ (l : Layout) (report : ℕ) (b : Runner) (buffer : List ℕ) (at : ℕ) (z : Outcome Answered Lent) where
       pub decoded-read : getD frame 0 0 ≡ readKind → z ≡ runFrame l report b (readFrame (getD frame 1 0) (getD frame 2 0)) buffer at
           → z ≡ runFrame l report b (frameOf line) buffer at
       decoded-read k q = q ∙ rw (get 1, get 2, eq-eqb (getD (unhex line) 0 0) readKind (sym (get 0) ∙ k))

@@ -14,7 +14,7 @@ use Rattle.causerules.specs.declared.notes.Notes.{Notes}
 use Rattle.causerules.specs.declared.notes.Tracked.{Tracked}
 use Rattle.scriptrules.specs.Frame.{Frame, writeFrame, readFrame}
 use Rattle.scriptrules.specs.Reply.{maxReply}
-use Rattle.scriptrules.specs.Session.{reportReplies, reportCauses, session, Bench, bench, trackFrame, frameText, afterLine}
+use Rattle.scriptrules.specs.Session.{reportReplies, reportCauses, session, Runner, runner, trackFrame, frameText, afterLine}
 use Rattle.scriptrules.specs.Run.{Lent, lend, answered, runFrame}
 use Rattle.scriptrules.specs.declared.session.Session.{Session}
 use Rattle.scriptrules.specs.declared.answer.Answered.{Answered}
@@ -35,7 +35,7 @@ module _ (l : Layout) (image : List ℕ) (r : ℕ) (s : Session) where
       → outcome t image′ ≡ track l image (s .gauge) n r bytes
       → buffer′ ≡ sets buffer at (trackedText t)
       → m ≡ length (trackedText t)
-      → outcome (answered 0 (session (t .gauge) (t .notes)) m) (lend image′ buffer′) ≡ runFrame l reportCauses (bench s image) (writeFrame r bytes) buffer at
+      → outcome (answered 0 (session (t .gauge) (t .notes)) m) (lend image′ buffer′) ≡ runFrame l reportCauses (runner s image) (writeFrame r bytes) buffer at
   unfolding runFrame frameText afterLine trackFrame outcome
   write-explained bytes buffer image′ buffer′ n t m at e p q h = rw (← e, ← p, q, h)
 
@@ -45,13 +45,13 @@ module _ (l : Layout) (image : List ℕ) (r : ℕ) (s : Session) where
 
   pub read-explained : (report : ℕ) (buffer : List ℕ) (a : Answered) (n at : ℕ) → report ≡ reportCauses
       → a ≡ answered 0 (session (s .gauge) (nextLine (s .notes))) 0
-      → outcome a (lend image buffer) ≡ runFrame l report (bench s image) (readFrame r n) buffer at
+      → outcome a (lend image buffer) ≡ runFrame l report (runner s image) (readFrame r n) buffer at
   unfolding runFrame frameText afterLine outcome
   read-explained report buffer a n at k p = rw (k, p)
 
 -- ---- by the report
 
-module _ (l : Layout) (report : ℕ) (b : Bench) (f : Frame) (buffer : List ℕ) (at : ℕ) (z : Outcome Answered Lent) where
+module _ (l : Layout) (report : ℕ) (b : Runner) (f : Frame) (buffer : List ℕ) (at : ℕ) (z : Outcome Answered Lent) where
   pub reports-causes : report ≡ reportCauses → z ≡ runFrame l reportCauses b f buffer at → z ≡ runFrame l report b f buffer at
   reports-causes k p = rw k p
 

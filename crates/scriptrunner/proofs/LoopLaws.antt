@@ -21,7 +21,7 @@ use Rattle.imagerules.proofs.LineLaws.{line-end}
 use Rattle.scriptrules.specs.Frame.{frameOf, linesAfter, linesOf}
 use Rattle.scriptrules.specs.Parser.{isFrame}
 use Rattle.scriptrules.specs.Reply.{maxReply}
-use Rattle.scriptrules.specs.Session.{bench}
+use Rattle.scriptrules.specs.Session.{runner}
 use Rattle.scriptrules.specs.Run.{Lent, lend, lineTests, lineError, answered, runFrame, runLine, progress, runLines, run}
 use Rattle.scriptrules.specs.declared.session.Session.{Session}
 use Rattle.scriptrules.specs.declared.answer.Answered.{Answered}
@@ -63,7 +63,7 @@ module _ (line : List ℕ) (room e : ℕ) (p : e ≡ lineError line room) (q : e
 -- ---- one line
 
 module _ (l : Layout) (report : ℕ) (image : List ℕ) (s : Session) (line buffer : List ℕ) (at e : ℕ) (p : e ≡ lineError line (length buffer - at)) where
-  pub answers : (z : Outcome Answered Lent) → e ≡ 0 → z ≡ runFrame l report (bench s image) (frameOf line) buffer at → z ≡ runLine l report image s line buffer at
+  pub answers : (z : Outcome Answered Lent) → e ≡ 0 → z ≡ runFrame l report (runner s image) (frameOf line) buffer at → z ≡ runLine l report image s line buffer at
   unfolding runLine
   answers z q r = r ∙ rw (← p, q)
 

@@ -20,7 +20,7 @@ use Rattle.gaugerules.specs.declared.answer.Written.{Written}
 use Rattle.gaugerules.specs.declared.answer.Reading.{Reading}
 use Rattle.scriptrules.specs.Frame.{writeFrame, readFrame}
 use Rattle.scriptrules.specs.Reply.{replyText, afterFrame}
-use Rattle.scriptrules.specs.Session.{reportReplies, session, bench, frameText, afterLine}
+use Rattle.scriptrules.specs.Session.{reportReplies, session, runner, frameText, afterLine}
 use Rattle.scriptrules.specs.Run.{lend, answered, runFrame}
 use Rattle.scriptrules.specs.declared.session.Session.{Session}
 use Rattle.scriptrules.proofs.ReplyLaws.{read-accepts}
@@ -48,14 +48,14 @@ module _ (l : Layout) (image : List ℕ) (r : ℕ) where
   module _ (s : Session) where
     pub write-answered : (bytes buffer image′ buffer′ : List ℕ) (w : Written) (n c at : ℕ) → outcome w image′ ≡ write l image (s .gauge) r bytes
         → n ≡ w .accepted % 256 → c ≡ w .changed % 256 → buffer′ ≡ sets buffer at (hexLine (w .error ∷ n ∷ c ∷ []))
-        → outcome (answered 0 (session (w .gauge) (s .notes)) 7) (lend image′ buffer′) ≡ runFrame l reportReplies (bench s image) (writeFrame r bytes) buffer at
+        → outcome (answered 0 (session (w .gauge) (s .notes)) 7) (lend image′ buffer′) ≡ runFrame l reportReplies (runner s image) (writeFrame r bytes) buffer at
     unfolding runFrame frameText afterLine replyText afterFrame reply afterCall outcome
     write-answered bytes buffer image′ buffer′ w n c at p q t e =
         rw (← p, e, q, t, low-high (w .accepted), low-low (w .accepted), low-high (w .changed), low-low (w .changed))
 
     pub read-answered : (buffer buffer′ v : List ℕ) (a : Reading) (n at : ℕ) → outcome a v ≡ read l image (s .gauge) r n (replicate registers 0)
         → a .accepted ≤ registers → length v ≡ registers → buffer′ ≡ sets buffer at (hexLine (a .error ∷ take (a .accepted - 0) (drop 0 v)))
-        → outcome (answered 0 s (3 + 2 * a .accepted)) (lend image buffer′) ≡ runFrame l reportReplies (bench s image) (readFrame r n) buffer at
+        → outcome (answered 0 s (3 + 2 * a .accepted)) (lend image buffer′) ≡ runFrame l reportReplies (runner s image) (readFrame r n) buffer at
     unfolding runFrame frameText afterLine replyText afterFrame reply afterCall outcome
     read-answered buffer buffer′ v a n at p h j e =
         let m : length (hexLine (a .error ∷ take (a .accepted) v)) ≡ 3 + 2 * a .accepted

@@ -11,7 +11,7 @@ ghost use Rattle.flashrules.specs.Outcome.{outcome};
 ghost use Rattle.causerules.specs.Notes.{nextLine};
 ghost use Rattle.scriptrules.specs.Frame.{writeFrame};
 ghost use Rattle.scriptrules.specs.Reply.{maxReply};
-ghost use Rattle.scriptrules.specs.Session.{reportCauses, session, bench};
+ghost use Rattle.scriptrules.specs.Session.{reportCauses, session, runner};
 ghost use Rattle.scriptrules.specs.Run.{lend, answered, runFrame};
 
 // A write frame is run as the next line, and its bytes are noted.
@@ -24,7 +24,7 @@ pub(crate) fn explain_write(
     buffer: &mut [u8],
     at: usize,
 ) -> Answered
-    ensures { λ r. ⌜ outcome r (lend (now (image .exit)) (now (buffer .exit))) ≡ runFrame layout reportCauses (bench session (now (image .entry))) (writeFrame register (now (bytes .entry))) (now (buffer .entry)) at ⌝ }
+    ensures { λ r. ⌜ outcome r (lend (now (image .exit)) (now (buffer .exit))) ≡ runFrame layout reportCauses (runner session (now (image .entry))) (writeFrame register (now (bytes .entry))) (now (buffer .entry)) at ⌝ }
     ensures { λ r. ⌜ r .length ≤ maxReply ⌝ }
 {
     let notes = next_line(session.notes);

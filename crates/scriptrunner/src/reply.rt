@@ -19,7 +19,7 @@ ghost use Rattle.flashrules.specs.Outcome.{outcome};
 ghost use Rattle.gaugerules.specs.Read.{read};
 ghost use Rattle.scriptrules.specs.Frame.{writeFrame, readFrame};
 ghost use Rattle.scriptrules.specs.Reply.{maxReply};
-ghost use Rattle.scriptrules.specs.Session.{reportReplies, bench};
+ghost use Rattle.scriptrules.specs.Session.{reportReplies, runner};
 ghost use Rattle.scriptrules.specs.Run.{lend, runFrame};
 
 // The longest reply: 00, 128 bytes and a line feed.
@@ -52,7 +52,7 @@ pub(crate) fn reply_write(
     buffer: &mut [u8],
     at: usize,
 ) -> Answered
-    ensures { λ r. ⌜ outcome r (lend (now (image .exit)) (now (buffer .exit))) ≡ runFrame layout reportReplies (bench session (now (image .entry))) (writeFrame register (now (bytes .entry))) (now (buffer .entry)) at ⌝ }
+    ensures { λ r. ⌜ outcome r (lend (now (image .exit)) (now (buffer .exit))) ≡ runFrame layout reportReplies (runner session (now (image .entry))) (writeFrame register (now (bytes .entry))) (now (buffer .entry)) at ⌝ }
     ensures { λ r. ⌜ r .length ≤ maxReply ⌝ }
 {
     let written = write(layout, image, session.gauge, register, bytes);
@@ -96,7 +96,7 @@ pub(crate) fn reply_read(
     buffer: &mut [u8],
     at: usize,
 ) -> Answered
-    ensures { λ r. ⌜ outcome r (lend (now (image .entry)) (now (buffer .exit))) ≡ runFrame layout reportReplies (bench session (now (image .entry))) (readFrame register count) (now (buffer .entry)) at ⌝ }
+    ensures { λ r. ⌜ outcome r (lend (now (image .entry)) (now (buffer .exit))) ≡ runFrame layout reportReplies (runner session (now (image .entry))) (readFrame register count) (now (buffer .entry)) at ⌝ }
     ensures { λ r. ⌜ r .length ≤ maxReply ⌝ }
 {
     let mut values = [0u8; REGISTERS];

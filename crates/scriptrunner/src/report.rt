@@ -12,7 +12,7 @@ ghost use Prim.Native.Nat.{_≤_};
 ghost use Rattle.flashrules.specs.Outcome.{outcome};
 ghost use Rattle.scriptrules.specs.Frame.{writeFrame, readFrame};
 ghost use Rattle.scriptrules.specs.Reply.{maxReply};
-ghost use Rattle.scriptrules.specs.Session.{bench};
+ghost use Rattle.scriptrules.specs.Session.{runner};
 ghost use Rattle.scriptrules.specs.Run.{lend, runFrame};
 
 pub(crate) fn run_write(
@@ -25,7 +25,7 @@ pub(crate) fn run_write(
     buffer: &mut [u8],
     at: usize,
 ) -> Answered
-    ensures { λ r. ⌜ outcome r (lend (now (image .exit)) (now (buffer .exit))) ≡ runFrame layout report (bench session (now (image .entry))) (writeFrame register (now (bytes .entry))) (now (buffer .entry)) at ⌝ }
+    ensures { λ r. ⌜ outcome r (lend (now (image .exit)) (now (buffer .exit))) ≡ runFrame layout report (runner session (now (image .entry))) (writeFrame register (now (bytes .entry))) (now (buffer .entry)) at ⌝ }
     ensures { λ r. ⌜ r .length ≤ maxReply ⌝ }
 {
     if report == REPORT_CAUSES {
@@ -44,7 +44,7 @@ pub(crate) fn run_read(
     buffer: &mut [u8],
     at: usize,
 ) -> Answered
-    ensures { λ r. ⌜ outcome r (lend (now (image .entry)) (now (buffer .exit))) ≡ runFrame layout report (bench session (now (image .entry))) (readFrame register count) (now (buffer .entry)) at ⌝ }
+    ensures { λ r. ⌜ outcome r (lend (now (image .entry)) (now (buffer .exit))) ≡ runFrame layout report (runner session (now (image .entry))) (readFrame register count) (now (buffer .entry)) at ⌝ }
     ensures { λ r. ⌜ r .length ≤ maxReply ⌝ }
 {
     if report == REPORT_CAUSES {

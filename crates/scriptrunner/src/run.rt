@@ -23,7 +23,7 @@ ghost use Rattle.scriptrules.specs.Frame.{maxFrame, frameOf};
 ghost use Rattle.scriptrules.specs.Parser.{isFrame};
 ghost use Rattle.scriptrules.specs.Reply.{maxReply};
 ghost use Rattle.flashrules.specs.Outcome.{outcome};
-ghost use Rattle.scriptrules.specs.Session.{bench};
+ghost use Rattle.scriptrules.specs.Session.{runner};
 ghost use Rattle.scriptrules.specs.Run.{lend, lineError, answered, runFrame, runLine, run};
 
 // Why a line is not run, 0 where it is; the buffer has so many bytes.
@@ -61,7 +61,7 @@ fn run_frame(
     at: usize,
 ) -> Answered
     requires { ⌜ isFrame (now line) ≡ true ⌝ }
-    ensures { λ r. ⌜ outcome r (lend (now (image .exit)) (now (buffer .exit))) ≡ runFrame layout report (bench session (now (image .entry))) (frameOf (now (line .entry))) (now (buffer .entry)) at ⌝ }
+    ensures { λ r. ⌜ outcome r (lend (now (image .exit)) (now (buffer .exit))) ≡ runFrame layout report (runner session (now (image .entry))) (frameOf (now (line .entry))) (now (buffer .entry)) at ⌝ }
     ensures { λ r. ⌜ r .length ≤ maxReply ⌝ }
 {
     let mut frame = [0u8; MAX_FRAME];
@@ -141,8 +141,8 @@ fn run_behind(
 }
 
 // The whole lines of a text are run, until one is refused; what they put out is at the front of the
-// buffer. 14 says that the buffer has no room for one more: the caller goes on behind `next`
-// with another.
+// buffer. 14 says that the buffer has no room for one more: the caller goes on behind `next` with
+// another.
 pub fn run(
     layout: Layout,
     report: u8,

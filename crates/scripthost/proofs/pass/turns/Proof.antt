@@ -4,14 +4,14 @@ use mathlib.Core.Path.{_≡_}
 use mathlib.Core.List.{[]}
 use Prim.Native.Nat.{_≤_}
 use lib.ListN.{length}
-use Rattle.scriptrules.specs.Session.{bench, freshBench}
+use Rattle.scriptrules.specs.Session.{runner, freshRunner}
 use Rattle.scripthost.specs.Held.{held, ByEvents}
 use Rattle.scripthost.proofs.EventLaws.{turn-on, pass-start, pass-end, pass-last}
 use Rattle.scripthost.proofs.pass.turns.Statement.{statement}
 use Rattle.scripthost.proofs.pass.turns.Tie as tie
 
 abbrev Inv-loop : tie.InvT-loop
-Inv-loop fd layout report image₀ buffer₀ out₀ session₀ from₀ to₀ read₀ turns₀ image buffer out session from to read turns = ByEvents layout report (freshBench image₀) [] (bench session image) (held buffer from to) × (from ≤ to) × (to ≤ length buffer) × (length buffer ≡ length buffer₀) × (length image ≡ length image₀) × (length out ≡ length out₀)
+Inv-loop fd layout report image₀ buffer₀ out₀ session₀ from₀ to₀ read₀ turns₀ image buffer out session from to read turns = ByEvents layout report (freshRunner image₀) [] (runner session image) (held buffer from to) × (from ≤ to) × (to ≤ length buffer) × (length buffer ≡ length buffer₀) × (length image ≡ length image₀) × (length out ≡ length out₀)
 
 abbrev μ-loop : tie.MeasureT-loop
 μ-loop fd layout report image₀ buffer₀ out₀ session₀ from₀ to₀ read₀ turns₀ image buffer out session from to read turns = turns

@@ -2,6 +2,7 @@
 // specs/Held.antt says in which sense its turns are events of a host.
 use crate::script_file::Parsed;
 use flashrules::layout::Layout;
+use framerunner::session::begin;
 use gaugerules::state::BOOT_SEALED;
 use gaugestate::state::power_on;
 use hostio::input::Got;
@@ -10,7 +11,6 @@ use hostio::output::print;
 use scriptrules::answer::Progress;
 use scriptrules::session::Session;
 use scriptrunner::run::run;
-use scriptrunner::session::begin;
 use std::num::wrapping_add_u64;
 ghost use mathlib.Core.Path.{_≡_};
 ghost use mathlib.Core.Bool.{true, false};

@@ -1,4 +1,2 @@
 pub mod DecodeLaws
-pub mod ExplainLaws
 pub mod LoopLaws
-pub mod PutLaws

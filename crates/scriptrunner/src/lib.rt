@@ -1,8 +1,3 @@
-// Frames are run on a gauge and its image, and what each puts out stands in a lent buffer: a reply,
-// or a line where a write is refused. Every function answers every argument; a contract is an
-// equation with a definition of crate `scriptrules`.
-mod explain;
-mod reply;
-mod report;
+// The lines of a script are run, one at a time or all whole lines of a text. Every function answers
+// every argument; a contract is an equation with a definition of crate `scriptrules`.
 pub mod run;
-pub mod session;

@@ -1,15 +1,15 @@
 // Frames are run in a session, over its image, and what they put out goes into a lent buffer: a
 // line at a time, or all whole lines of a text.
-use crate::reply::MAX_REPLY;
-use crate::report::run_read;
-use crate::report::run_write;
 use flashrules::error::MALFORMED;
 use flashrules::error::SHORT_BUFFER;
 use flashrules::layout::Layout;
+use framerunner::report::run_read;
+use framerunner::report::run_write;
 use hextext::LINE_FEED;
 use hextext::decode;
 use scriptparser::is_frame;
 use scriptrules::answer::Answered;
+use scriptrules::answer::MAX_REPLY;
 use scriptrules::answer::Progress;
 use scriptrules::parser::MAX_FRAME;
 use scriptrules::parser::READ;

@@ -22,9 +22,6 @@ ghost use Rattle.scriptrules.specs.Reply.{maxReply};
 ghost use Rattle.scriptrules.specs.Session.{reportReplies, runner};
 ghost use Rattle.scriptrules.specs.Run.{lend, runFrame};
 
-// The longest reply: 00, 128 bytes and a line feed.
-pub(crate) const MAX_REPLY: usize = 2 * (1 + REGISTERS) + 1;
-
 // A byte and bytes as a line, from an index on.
 fn put_line(first: u8, rest: &[u8], buffer: &mut [u8], at: usize)
     ensures { λ _. ⌜ now (buffer .exit) ≡ sets (now (buffer .entry)) at (hexLine (first ∷ now (rest .entry))) ⌝ }

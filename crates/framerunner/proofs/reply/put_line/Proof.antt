@@ -1,9 +1,9 @@
--- `scriptrunner::reply::put_line` meets its contract. Two digits, and the line behind them.
+-- `framerunner::reply::put_line` meets its contract. Two digits, and the line behind them.
 use borrow.Author.Needs.{needs}
 use Rattle.hextext.proofs.StoreLaws.{sets-out}
-use Rattle.scriptrunner.proofs.PutLaws.{line-put}
-use Rattle.scriptrunner.proofs.reply.put_line.Statement.{statement}
-use Rattle.scriptrunner.proofs.reply.put_line.Tie as tie
+use Rattle.framerunner.proofs.PutLaws.{line-put}
+use Rattle.framerunner.proofs.reply.put_line.Statement.{statement}
+use Rattle.framerunner.proofs.reply.put_line.Tie as tie
 
 pub put-line-spec : {M : Type 1} → statement M
 put-line-spec =

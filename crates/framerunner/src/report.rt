@@ -15,7 +15,7 @@ ghost use Rattle.scriptrules.specs.Reply.{maxReply};
 ghost use Rattle.scriptrules.specs.Session.{runner};
 ghost use Rattle.scriptrules.specs.Run.{lend, runFrame};
 
-pub(crate) fn run_write(
+pub fn run_write(
     layout: Layout,
     report: u8,
     image: &mut [u8],
@@ -34,7 +34,7 @@ pub(crate) fn run_write(
     reply_write(layout, image, session, register, bytes, buffer, at)
 }
 
-pub(crate) fn run_read(
+pub fn run_read(
     layout: Layout,
     report: u8,
     image: &[u8],

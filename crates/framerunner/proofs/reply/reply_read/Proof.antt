@@ -1,8 +1,8 @@
--- `scriptrunner::reply::reply_read` meets its contract. By the read.
+-- `framerunner::reply::reply_read` meets its contract. By the read.
 use borrow.Author.Needs.{needs}
-use Rattle.scriptrunner.proofs.PutLaws.{read-answered}
-use Rattle.scriptrunner.proofs.reply.reply_read.Statement.{statement}
-use Rattle.scriptrunner.proofs.reply.reply_read.Tie as tie
+use Rattle.framerunner.proofs.PutLaws.{read-answered}
+use Rattle.framerunner.proofs.reply.reply_read.Statement.{statement}
+use Rattle.framerunner.proofs.reply.reply_read.Tie as tie
 
 pub reply-read-spec : {M : Type 1} → statement M
 reply-read-spec =

@@ -1,8 +1,8 @@
--- `scriptrunner::reply::reply_write` meets its contract. By the write.
+-- `framerunner::reply::reply_write` meets its contract. By the write.
 use borrow.Author.Needs.{needs}
-use Rattle.scriptrunner.proofs.PutLaws.{write-answered}
-use Rattle.scriptrunner.proofs.reply.reply_write.Statement.{statement}
-use Rattle.scriptrunner.proofs.reply.reply_write.Tie as tie
+use Rattle.framerunner.proofs.PutLaws.{write-answered}
+use Rattle.framerunner.proofs.reply.reply_write.Statement.{statement}
+use Rattle.framerunner.proofs.reply.reply_write.Tie as tie
 
 pub reply-write-spec : {M : Type 1} → statement M
 reply-write-spec =

@@ -1,8 +1,8 @@
--- `scriptrunner::report::run_write` meets its contract. By the report.
+-- `framerunner::report::run_write` meets its contract. By the report.
 use borrow.Author.Needs.{needs}
-use Rattle.scriptrunner.proofs.ExplainLaws.{reports-causes, reports-replies}
-use Rattle.scriptrunner.proofs.report.run_write.Statement.{statement}
-use Rattle.scriptrunner.proofs.report.run_write.Tie as tie
+use Rattle.framerunner.proofs.ExplainLaws.{reports-causes, reports-replies}
+use Rattle.framerunner.proofs.report.run_write.Statement.{statement}
+use Rattle.framerunner.proofs.report.run_write.Tie as tie
 
 pub run-write-spec : {M : Type 1} → statement M
 run-write-spec =

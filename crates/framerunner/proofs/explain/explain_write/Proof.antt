@@ -1,8 +1,8 @@
--- `scriptrunner::explain::explain_write` meets its contract. By the write whose bytes are noted.
+-- `framerunner::explain::explain_write` meets its contract. By the write whose bytes are noted.
 use borrow.Author.Needs.{needs}
-use Rattle.scriptrunner.proofs.ExplainLaws.{write-explained, write-short}
-use Rattle.scriptrunner.proofs.explain.explain_write.Statement.{statement}
-use Rattle.scriptrunner.proofs.explain.explain_write.Tie as tie
+use Rattle.framerunner.proofs.ExplainLaws.{write-explained, write-short}
+use Rattle.framerunner.proofs.explain.explain_write.Statement.{statement}
+use Rattle.framerunner.proofs.explain.explain_write.Tie as tie
 
 pub explain-write-spec : {M : Type 1} → statement M
 explain-write-spec =

@@ -1,8 +1,8 @@
--- `scriptrunner::report::run_read` meets its contract. By the report.
+-- `framerunner::report::run_read` meets its contract. By the report.
 use borrow.Author.Needs.{needs}
-use Rattle.scriptrunner.proofs.ExplainLaws.{read-explained, read-none, reports-replies}
-use Rattle.scriptrunner.proofs.report.run_read.Statement.{statement}
-use Rattle.scriptrunner.proofs.report.run_read.Tie as tie
+use Rattle.framerunner.proofs.ExplainLaws.{read-explained, read-none, reports-replies}
+use Rattle.framerunner.proofs.report.run_read.Statement.{statement}
+use Rattle.framerunner.proofs.report.run_read.Tie as tie
 
 pub run-read-spec : {M : Type 1} → statement M
 run-read-spec =

@@ -1,0 +1,2 @@
+pub mod ExplainLaws
+pub mod PutLaws

@@ -1,35 +1,26 @@
--- Laws of block transfer: a block as loaded, and what loads, edits and commits put together from
--- calls.
+-- Laws of block transfer: a block as loaded, and what loads and edits put together from calls.
 use Prim.Native.Nat.{ℕ, zero, suc, _+_, _-_, _≤_, _<_}
 use mathlib.Core.Path.{_≡_, sym, ap, _∙_}
-use mathlib.Core.Bool.{Bool, true, false, cond, not}
-use mathlib.Core.List.{List, [], _∷_}
+use mathlib.Core.Bool.{Bool, true, false, cond}
+use mathlib.Core.List.{List}
 use native.Mathlib.Nat.{sub-zero}
 use native.Mathlib.Numerals.{add-one}
 use native.Mathlib.Omega.{arith}
-use lib.Dec.{eqb, leb}
+use lib.Dec.{leb}
 use lib.ListN.{length, drop, getD, set, replicate}
 use lib.Seq.{paste, paste-suc, set-out, take-all}
-use borrow.Author.Tests.{eq-eqb, ne-eqb, leb-true}
-use Rattle.checksum.specs.Checksum.{checksum}
-use Rattle.flashrules.specs.Error.{wrongChecksum}
-use Rattle.flashrules.specs.Outcome.{outcome}
-use Rattle.flashrules.specs.Choice.{differing}
+use borrow.Author.Tests.{leb-true}
 use Rattle.flashrules.specs.Answer.{errorOf, lengthOf}
 use Rattle.flashrules.specs.Lookup.{blockSize, findBlock}
-use Rattle.flashrules.specs.Image.{blockBytes, storeBlock, asLoaded}
+use Rattle.flashrules.specs.Image.{blockBytes, asLoaded}
 use Rattle.flashrules.specs.declared.layout.Layout.{Layout}
 use Rattle.flashrules.specs.declared.lookup.Lookup.{Lookup}
 use Rattle.flashrules.proofs.Laws.{block-inside, block-length}
 use Rattle.flashrules.proofs.ImageLaws.{block-most}
-use Rattle.flashrules.proofs.DifferingLaws.{differing-self}
-use Rattle.flashrules.proofs.RefusalLaws.{error-first, error-behind}
 use Rattle.flashrules.proofs.Picks.{and-first, on-answer}
-use Rattle.gaugerules.specs.State.{infoBlocks, zeroWindow, loadedOf, withWindow, load}
-use Rattle.gaugerules.specs.Transfer.{byteWritten, accept, refuse, loadBlock, selectsInfo, editTests, editError, commitError, committed}
-use Rattle.gaugerules.specs.Write.{commit}
+use Rattle.gaugerules.specs.State.{infoBlocks, zeroWindow, withWindow, load}
+use Rattle.gaugerules.specs.Transfer.{accept, refuse, loadBlock, selectsInfo}
 use Rattle.gaugerules.specs.declared.state.Gauge.{Gauge}
-use Rattle.gaugerules.specs.declared.state.Loaded.{Loaded}
 use Rattle.gaugerules.specs.declared.answer.ByteWritten.{ByteWritten}
 
 drop-replicate : (n k : ℕ) → drop k (replicate n 0) ≡ replicate {A = ℕ} (n - k) 0
@@ -84,31 +75,3 @@ info-above byte t p q = leb-true 1 byte (and-first (leb 1 byte) (cond (leb byte 
 
 pub no-place : (g : Gauge) (k byte : ℕ) → length (g .window) ≡ blockSize → blockSize ≤ k → g ≡ withWindow g (set (g .window) k byte)
 no-place g k byte w h = rw (set-out (g .window) k byte (omega arith))
-
--- ---- a commit
-
--- the checksum's test comes behind those of an edit
-module _ (l : Layout) (image : List ℕ) (g : Gauge) (byte e : ℕ) (p : e ≡ editError g) where
-  pub edit-first : (e ≡ 0 → ⊥) → e ≡ commitError l image g byte
-  unfolding commitError editError
-  edit-first h = error-first (editTests g) ((not (eqb byte (checksum (g .window))), wrongChecksum) ∷ []) (omega arith, (omega arith, tt)) e p h
-
-  pub sum-behind : e ≡ 0 → (n : ℕ) → n ≡ cond (not (eqb byte (checksum (g .window)))) wrongChecksum 0 → n ≡ commitError l image g byte
-  unfolding commitError editError
-  sum-behind h n q = error-behind (editTests g) ((not (eqb byte (checksum (g .window))), wrongChecksum) ∷ []) (omega arith, (omega arith, tt)) e p h n q
-
-module _ (l : Layout) (image to : List ℕ) (g : Gauge) (byte e : ℕ) (s : ByteWritten) (p : e ≡ commitError l image g byte) where
-  pub commits : e ≤ 0 → (a : Loaded) (i b n : ℕ) → a ≡ loadedOf (g .loaded) → a ≡ Loaded.Block i b
-      → n ≡ differing image (storeBlock l image i b (g .window)) → to ≡ storeBlock l image i b (g .window) → s ≡ byteWritten 0 n g
-      → outcome s to ≡ commit l image g byte
-  unfolding commit committed
-  commits q a i b n x y m z t = rw (t, m, z, ← p, eq-eqb e 0 (omega arith), ← x, y)
-
-  -- nothing is loaded, so nothing is stored
-  pub commits-none : e ≤ 0 → (a : Loaded) → a ≡ loadedOf (g .loaded) → a ≡ Loaded.None → s ≡ accept g → outcome s image ≡ commit l image g byte
-  unfolding commit committed
-  commits-none q a x y t = rw (t, ← p, eq-eqb e 0 (omega arith), ← x, y, differing-self image)
-
-  pub commits-not : 0 < e → s ≡ refuse e g → outcome s image ≡ commit l image g byte
-  unfolding commit
-  commits-not q t = rw (t, ← p, ne-eqb e 0 (λ z. omega arith))

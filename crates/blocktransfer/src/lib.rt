@@ -1,14 +1,10 @@
-// Block transfer: what a byte at 0x3E, 0x3F, 0x40 to 0x5F, 0x60 and 0x61 does. A refused byte hands
-// the gauge back as it was.
-use checksum::checksum;
-use dataflash::store_block;
-use dataflash::store_changes;
+// Block transfer: what a byte at 0x3E, 0x3F, 0x40 to 0x5F and 0x61 does. A refused byte hands the
+// gauge back as it was. Crate `blockcommit` has 0x60.
 use flashrules::error::INVALID_CONTROL;
 use flashrules::error::NOTHING_LOADED;
 use flashrules::error::PROTECTED_BLOCK;
 use flashrules::error::SEALED_REGISTER;
 use flashrules::error::UNKNOWN_BLOCK;
-use flashrules::error::WRONG_CHECKSUM;
 use flashrules::layout::INFO_CLASS;
 use flashrules::layout::Layout;
 use flashrules::lookup::BLOCK_SIZE;
@@ -20,6 +16,7 @@ use gaugerules::state::INFO_BLOCKS;
 use gaugerules::state::Loaded;
 use gaugerules::state::SEALED;
 use gaugestate::state::general_access;
+use gaugestate::state::is_loaded;
 use gaugestate::state::load;
 use gaugestate::state::loaded;
 use gaugestate::state::unload;
@@ -28,13 +25,10 @@ use layout::lookup::find_block;
 ghost use mathlib.Core.Path.{_≡_};
 ghost use Prim.Native.Nat.{_≤_};
 ghost use lib.ListN.{length, set};
-ghost use Rattle.checksum.specs.Checksum.{checksum};
-ghost use Rattle.flashrules.specs.Outcome.{outcome};
 ghost use Rattle.flashrules.specs.Lookup.{blockSize};
 ghost use Rattle.flashrules.specs.Image.{asLoaded};
 ghost use Rattle.gaugerules.specs.State.{withWindow};
-ghost use Rattle.gaugerules.specs.Transfer.{accept, refuse, setClass, loadBlock, selectsInfo, selectBlock, isProtected, editError, edit, commitError, setControl};
-ghost use Rattle.gaugerules.specs.Write.{commit};
+ghost use Rattle.gaugerules.specs.Transfer.{accept, refuse, setClass, loadBlock, selectsInfo, selectBlock, isProtected, editError, edit, setControl};
 
 fn accept(gauge: Gauge) -> ByteWritten
     ensures { λ s. ⌜ s ≡ accept gauge ⌝ }
@@ -130,18 +124,13 @@ pub fn is_protected(gauge: Gauge) -> bool
     ensures { λ r. ⌜ r ≡ isProtected gauge ⌝ }
 {
     if gauge.mode == SEALED {
-        let Loaded::Block { class, block } = loaded(gauge) else {
-            return false;
-        };
-        if class == INFO_CLASS {
-            return block == BLOCK_A;
-        }
+        return is_loaded(gauge, INFO_CLASS, BLOCK_A);
     }
     false
 }
 
 // Why the window may not be changed, 0 where it may.
-fn edit_error(gauge: Gauge) -> u8
+pub fn edit_error(gauge: Gauge) -> u8
     ensures { λ r. ⌜ r ≡ editError gauge ⌝ }
 {
     let Loaded::Block { class: _, block: _ } = loaded(gauge) else {
@@ -174,49 +163,6 @@ pub fn edit(gauge: Gauge, k: usize, byte: u8) -> ByteWritten
         return accept(replace_byte(gauge, k, byte));
     }
     refuse(error, gauge)
-}
-
-// The checksum of a window.
-fn window_sum(window: [u8; BLOCK_SIZE]) -> u8
-    ensures { λ r. ⌜ r ≡ checksum window ⌝ }
-{
-    checksum(&window)
-}
-
-// Why the window may not be committed by this byte, 0 where it may.
-fn commit_error(layout: Layout, image: &[u8], gauge: Gauge, byte: u8) -> u8
-    ensures { λ r. ⌜ r ≡ commitError layout (now (image .entry)) gauge byte ⌝ }
-{
-    let error = edit_error(gauge);
-    if error == 0 {
-        let window = gauge.window;
-        if byte == window_sum(window) {
-            return 0;
-        }
-        return WRONG_CHECKSUM;
-    }
-    error
-}
-
-// 0x60: the answer counts the bytes of the image that the commit changed.
-pub fn commit(layout: Layout, image: &mut [u8], gauge: Gauge, byte: u8) -> ByteWritten
-    ensures { λ s. ⌜ outcome s (now (image .exit)) ≡ commit layout (now (image .entry)) gauge byte ⌝ }
-{
-    let error = commit_error(layout, &image[..], gauge, byte);
-    if 0 < error {
-        return refuse(error, gauge);
-    }
-    let Loaded::Block { class, block } = loaded(gauge) else {
-        return accept(gauge);
-    };
-    let window = gauge.window;
-    let changed = store_changes(layout, &image[..], class, block, window);
-    store_block(layout, image, class, block, window);
-    ByteWritten {
-        error: 0,
-        changed,
-        gauge,
-    }
 }
 
 // 0x61.

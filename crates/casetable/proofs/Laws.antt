@@ -12,8 +12,9 @@ use Rattle.imagerules.specs.Candidate.{width, addLine, candidate}
 use Rattle.imagerules.specs.File.{holds, parseImage}
 use Rattle.gaugerules.specs.Valid.{inRange, valid}
 use Rattle.gaugerules.specs.Register.{registerOf}
-use Rattle.gaugerules.specs.Word.{isKey, keyWord, obey}
-use Rattle.gaugerules.specs.Transfer.{setClass, loadBlock, selectBlock, isProtected, editError, edit, commitError, committed, setControl}
+use Rattle.gaugerules.specs.Keys.{isKey}
+use Rattle.gaugerules.specs.Word.{keyWord, obey}
+use Rattle.gaugerules.specs.Transfer.{setClass, loadBlock, selectBlock, isProtected, editError, edit, changesKeys, commitError, committed, setControl}
 use Rattle.gaugerules.specs.State.{loadedOf}
 use Rattle.gaugerules.specs.Write.{commit, writeAt, writeByte, writeBytes, badSpan, callError, write}
 use Rattle.gaugerules.specs.Read.{readAt, readByte, readBytes, readError, read}
@@ -32,7 +33,7 @@ use Rattle.casetable.specs.Session.{SessionHolds}
 use Rattle.casetable.specs.Why.{CausesHold}
 
 computed : CasesHold × SessionHolds × CausesHold
-unfolding passes every classes validLayout fits findClass findBlock blockExists blockBytes storeBlock asLoaded inRange valid registerOf isKey keyWord obey setClass loadBlock selectBlock isProtected editError edit commitError committed setControl outcome loadedOf commit writeAt writeByte writeBytes badSpan callError write readAt readByte readBytes readError read reply afterCall indexOf indexAfter digit value line blockLines serializeImage width addLine candidate holds parseImage isDigit isWhole withDigit withCharacter feedByte endError parseScript replyText afterFrame replay toBytes fromBytes fitsIn widthOf isSigned holdsInteger validParameter inParameterRange getError setError valueIn get set byteSteps writeSteps reasonOf causeText explanation why
+unfolding passes every classes validLayout fits findClass findBlock blockExists blockBytes storeBlock asLoaded inRange valid registerOf isKey keyWord obey setClass loadBlock selectBlock isProtected editError edit changesKeys commitError committed setControl outcome loadedOf commit writeAt writeByte writeBytes badSpan callError write readAt readByte readBytes readError read reply afterCall indexOf indexAfter digit value line blockLines serializeImage width addLine candidate holds parseImage isDigit isWhole withDigit withCharacter feedByte endError parseScript replyText afterFrame replay toBytes fromBytes fitsIn widthOf isSigned holdsInteger validParameter inParameterRange getError setError valueIn get set byteSteps writeSteps reasonOf causeText explanation why
 computed = (refl, refl, refl)
 
 pub cases-hold : CasesHold

@@ -188,6 +188,38 @@ cases =
     ∷ []))
     (linesText ((0 ∷ 1 ∷ 0 ∷ []) ∷ (0 ∷ 1 ∷ 0 ∷ []) ∷ (3 ∷ 1 ∷ 1 ∷ []) ∷ (0 ∷ 1 ∷ 0 ∷ []) ∷ []))
     65 7
+    -- C-14: unsealed, another last byte of the keys: 8 for a wrong checksum, then 16; with the byte
+    -- that is there and another one behind the keys it stands
+    ∷ session 0 0
+    (linesText
+    ((0x01 ∷ 0x00 ∷ 0x14 ∷ 0x04 ∷ [])
+    ∷ (0x01 ∷ 0x00 ∷ 0x72 ∷ 0x36 ∷ [])
+    ∷ (0x01 ∷ 0x61 ∷ 0 ∷ [])
+    ∷ (0x01 ∷ 0x3E ∷ 112 ∷ 0 ∷ [])
+    ∷ (0x01 ∷ 0x47 ∷ 1 ∷ [])
+    ∷ (0x01 ∷ 0x60 ∷ 0x3F ∷ [])
+    ∷ (0x01 ∷ 0x60 ∷ 0x3E ∷ [])
+    ∷ (0x01 ∷ 0x47 ∷ 0 ∷ 1 ∷ [])
+    ∷ (0x01 ∷ 0x60 ∷ 0x3E ∷ [])
+    ∷ []))
+    (linesText
+    ((0 ∷ 2 ∷ 0 ∷ [])
+    ∷ (0 ∷ 2 ∷ 0 ∷ [])
+    ∷ (0 ∷ 1 ∷ 0 ∷ [])
+    ∷ (0 ∷ 2 ∷ 0 ∷ [])
+    ∷ (0 ∷ 1 ∷ 0 ∷ [])
+    ∷ (8 ∷ 0 ∷ 0 ∷ [])
+    ∷ (16 ∷ 0 ∷ 0 ∷ [])
+    ∷ (0 ∷ 2 ∷ 0 ∷ [])
+    ∷ (0 ∷ 1 ∷ 1 ∷ [])
+    ∷ []))
+    137 1
+    -- C-14: in full access the first byte of the keys may be another
+    ∷ session 0 1
+    (linesText
+    ((0x01 ∷ 0x61 ∷ 0 ∷ []) ∷ (0x01 ∷ 0x3E ∷ 112 ∷ 0 ∷ []) ∷ (0x01 ∷ 0x40 ∷ 0x15 ∷ []) ∷ (0x01 ∷ 0x60 ∷ 0x3E ∷ []) ∷ []))
+    (linesText ((0 ∷ 1 ∷ 0 ∷ []) ∷ (0 ∷ 2 ∷ 0 ∷ []) ∷ (0 ∷ 1 ∷ 0 ∷ []) ∷ (0 ∷ 1 ∷ 1 ∷ []) ∷ []))
+    129 0x15
     ∷ []
 
 abbrev pub CasesHold : Type 0

@@ -1,5 +1,6 @@
 -- The checksum that would have matched: only a byte at 0x60 is refused with 8, and there alone for
--- its number, so that the right one in its place commits. The bytes before it leave the image.
+-- its number, so that the right one in its place commits or is refused with 16, which comes behind.
+-- The bytes before it leave the image.
 use Prim.Native.Nat.{ℕ, zero, suc, _+_, _<_}
 use mathlib.Core.Path.{_≡_, refl, ap, _∙_}
 use mathlib.Core.Bool.{true, false}
@@ -10,32 +11,35 @@ use lib.ListN.{length, take, length-append}
 use lib.Seq.{length-take-le}
 use borrow.Author.Tests.{eqb-true, eqb-false, eq-eqb}
 use Rattle.checksum.specs.Checksum.{checksum}
-use Rattle.flashrules.specs.Error.{wrongChecksum}
+use Rattle.flashrules.specs.Error.{wrongChecksum, protectedKeys}
 use Rattle.flashrules.specs.Outcome.{Outcome, outcome}
 use Rattle.flashrules.specs.Choice.{differing}
 use Rattle.flashrules.specs.Image.{Bytes}
 use Rattle.flashrules.specs.declared.layout.Layout.{Layout}
 use Rattle.flashrules.proofs.Picks.{on-test}
 use Rattle.flashrules.proofs.RefusalLaws.{first-in}
-use Rattle.gaugerules.specs.Register.{blockDataChecksum}
-use Rattle.gaugerules.specs.Transfer.{byteWritten}
-use Rattle.gaugerules.specs.Write.{writeByte, written, writeBytes, callTests, callError, write}
+use Rattle.flashrules.proofs.DifferingLaws.{differing-self}
+use Rattle.gaugerules.specs.Register.{blockDataChecksum, registerOf}
+use Rattle.gaugerules.specs.Transfer.{byteWritten, refuse, changesKeys, commitError}
+use Rattle.gaugerules.specs.Write.{commit, writeAt, writeByte, written, writeBytes, callTests, callError, write}
 use Rattle.gaugerules.specs.Laws.{Good, commits, Committed}
 use Rattle.gaugerules.specs.declared.state.Gauge.{Gauge}
 use Rattle.gaugerules.specs.declared.answer.ByteWritten.{ByteWritten}
 use Rattle.gaugerules.specs.declared.answer.Written.{Written}
 use Rattle.gaugerules.proofs.Laws.{refused-byte, only-commit, byte-good, commit-rule, write-changed}
 use Rattle.gaugerules.proofs.RunLaws.{goes-on, stops, called, calls-with}
-use Rattle.causerules.specs.Laws.{ChecksumAccepted}
+use Rattle.causerules.specs.Laws.{ChecksumMatches}
 use Rattle.causerules.proofs.ReasonLaws.{Mismatched, wrong-checksum}
 
 -- the bytes bs, with the right checksum in place of the one behind the first `count`
 abbrev righted : ℕ → List ℕ → Gauge → List ℕ
 righted count bs g = take count bs ++ (checksum (g .window) ∷ [])
 
--- one byte more than n is accepted, and commits what gauge g has
+-- one byte more than n is accepted, and commits what gauge g has; or it is refused with 16
 abbrev Rights : Layout → List ℕ → ℕ → Gauge → Outcome Written (List ℕ) → Type 0
-Rights l image n g v = (v .answer ≡ written 0 (n + 1) (v .answer .changed) g) × Committed l image g (v .lent)
+Rights l image n g v =
+    (changesKeys l image g ≡ false → (v .answer ≡ written 0 (n + 1) (v .answer .changed) g) × Committed l image g (v .lent))
+    × (changesKeys l image g ≡ true → (v .answer ≡ written protectedKeys n (v .answer .changed) g) × (v .lent ≡ image))
 
 -- what is claimed of a run over bs from r on, before which n were accepted
 record Right (l : Layout) (image : List ℕ) (r n : ℕ) (bs : List ℕ) (w : Written) (run : List ℕ → Outcome Written (List ℕ)) : Type 0 where
@@ -57,15 +61,28 @@ module _ (l : Layout) (image : List ℕ) (g : Gauge) (r n c : ℕ) where
   runs-none e = absurd (omega arith)
 
   -- the right checksum itself, in place of the byte that was refused
-  commits-right : Good l image g → Mismatched g r → Rights l image n g (writeBytes l image g r n c (checksum (g .window) ∷ []))
+  abbrev sum : ℕ
+  sum = checksum (g .window)
+
+  right-commits : Good l image g → Mismatched g r → changesKeys l image g ≡ false
+      → let v = writeBytes l image g r n c (sum ∷ []) in (v .answer ≡ written 0 (n + 1) (v .answer .changed) g) × Committed l image g (v .lent)
   unfolding writeBytes outcome
-  commits-right o m =
-      let sum = checksum (g .window) in
+  right-commits o m k =
       let t = writeByte l image g blockDataChecksum sum in
-      let all : commits g sum ≡ true = rw (m .loaded, m .free, eq-eqb sum sum refl) in
+      let all : commits l image g sum ≡ true = rw (m .loaded, m .free, eq-eqb sum sum refl, k) in
       let does = commit-rule l image g sum (o .fits) (o .valid) .0 all in
       let is : t ≡ outcome (byteWritten 0 (differing image (t .lent)) g) (t .lent) = ap (λ (s : ByteWritten). outcome s (t .lent)) (does .0) in
       rw (m .register, goes-on l image g blockDataChecksum n c sum [] _ (t .lent) is refl) (refl, does .1)
+
+  right-refused : Mismatched g r → changesKeys l image g ≡ true
+      → let v = writeBytes l image g r n c (sum ∷ []) in (v .answer ≡ written protectedKeys n (v .answer .changed) g) × (v .lent ≡ image)
+  unfolding writeByte writeAt registerOf commit commitError outcome
+  right-refused m k =
+      let is : writeByte l image g blockDataChecksum sum ≡ outcome (refuse protectedKeys g) image = rw (m .loaded, m .free, eq-eqb sum sum refl, k) in
+      rw (m .register, stops l image g blockDataChecksum n c sum [] (refuse protectedKeys g) image is refl) (refl, refl)
+
+  right : Good l image g → Mismatched g r → Rights l image n g (writeBytes l image g r n c (sum ∷ []))
+  right o m = (right-commits o m, right-refused m)
 
   module _ (b : ℕ) (bs : List ℕ) where
     abbrev s : Outcome ByteWritten (List ℕ)
@@ -83,7 +100,7 @@ module _ (l : Layout) (image : List ℕ) (g : Gauge) (r n c : ℕ) where
           accepted = omega arith;
           there = omega (arith, m .register);
           more = omega arith;
-          rights = rw (refused-byte l image g r b (eqb-false (s .answer .error) 0 p) .0) (commits-right o m);
+          rights = rw (refused-byte l image g r b (eqb-false (s .answer .error) 0 p) .0) (right o m);
         })
 
     -- a byte before that one leaves the image
@@ -146,9 +163,19 @@ write-right l image g r bytes h o =
     rw (is, calls) (rw is at (right .rights))))
     (λ p. rw p (λ e. absurd (not-called l (length image) g r (length bytes) e)))
 
-pub checksum-accepted : ChecksumAccepted
-checksum-accepted l image g r bytes h o e =
+pub checksum-matches : ChecksumMatches
+unfolding outcome
+checksum-matches l image g r bytes h o e =
     let w = write l image g r bytes .answer in
     let to = righted (w .accepted) bytes (w .gauge) in
+    let v = write l image g r to in
     let right = write-right l image g r bytes h o e in
-    (right .0 ∙ ap (λ (changed : ℕ). written 0 (w .accepted + 1) changed (w .gauge)) (write-changed l image g r to), right .1)
+    let changed = write-changed l image g r to in (
+      λ k. (right .0 k .0 ∙ ap (λ (n : ℕ). written 0 (w .accepted + 1) n (w .gauge)) changed, right .0 k .1),
+      λ k.
+          let kept = right .1 k in
+          let none : v .answer .changed ≡ 0 = changed ∙ rw (kept .1) (differing-self image) in
+          let is : v .answer ≡ written protectedKeys (w .accepted) 0 (w .gauge) =
+          kept .0 ∙ ap (λ (n : ℕ). written protectedKeys (w .accepted) n (w .gauge)) none in
+          ap (λ (a : Written). outcome a (v .lent)) is ∙ ap (outcome (written protectedKeys (w .accepted) 0 (w .gauge))) (kept .1),
+    )

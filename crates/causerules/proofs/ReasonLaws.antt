@@ -11,7 +11,7 @@ use lib.Dec.{eqb, leb}
 use lib.ListN.{length}
 use borrow.Author.Tests.{eqb-true, eqb-false, not-false, eq-eqb, le-leb, lt-leb}
 use Rattle.flashrules.specs.Error.{readOnly, sealedRegister, unknownClass, unknownBlock, nothingLoaded, protectedBlock, wrongChecksum}
-use Rattle.flashrules.specs.Error.{invalidControl}
+use Rattle.flashrules.specs.Error.{invalidControl, protectedKeys}
 use Rattle.flashrules.specs.Choice.{and}
 use Rattle.flashrules.specs.Refusal.{firstError}
 use Rattle.flashrules.specs.Outcome.{Outcome, outcome}
@@ -21,10 +21,11 @@ use Rattle.flashrules.proofs.Picks.{pick-last, and-first, and-rest, same-refl, 
 use Rattle.flashrules.proofs.RefusalLaws.{first-in}
 use Rattle.gaugerules.specs.State.{isSealed, isFullAccess, nonePending, generalAccess, loadedOf, noneLoaded}
 use Rattle.gaugerules.specs.Register.{dataFlashClass, blockDataChecksum, blockDataControl, registerOf}
-use Rattle.gaugerules.specs.Word.{word, statusWord, sealWord, resetWord, keys, isKey, keyWanted, keyWord, obey}
+use Rattle.gaugerules.specs.Keys.{keys, isKey}
+use Rattle.gaugerules.specs.Word.{word, statusWord, sealWord, resetWord, keyWanted, keyWord, obey}
 use Rattle.gaugerules.specs.Transfer.{isProtected}
 use Rattle.gaugerules.specs.Write.{writeAt, writeByte, written, writeBytes, callTests, callError, write}
-use Rattle.gaugerules.specs.Table.{byteTests, row2, row3, row4, row5, row6, row7, row8, row9}
+use Rattle.gaugerules.specs.Table.{byteTests, row2, row3, row4, row5, row6, row7, row8, row9, row16}
 use Rattle.gaugerules.specs.declared.state.Gauge.{Gauge}
 use Rattle.gaugerules.specs.declared.register.Register.{Register}
 use Rattle.gaugerules.specs.declared.answer.ByteWritten.{ByteWritten}
@@ -49,7 +50,7 @@ pub record Mismatched (g : Gauge) (r : ℕ) : Type 0 where
   pub loaded : noneLoaded g ≡ false
   pub free : isProtected g ≡ false
 
-module _ (l : Layout) (g : Gauge) (r byte : ℕ) where
+module _ (l : Layout) (image : List ℕ) (g : Gauge) (r byte : ℕ) where
   -- so it met 0x60, as no row before its own held
   mismatched : row6 g r ≡ false → row7 g r ≡ false → row8 g r byte ≡ true → Mismatched g r
   mismatched n p d =
@@ -58,9 +59,9 @@ module _ (l : Layout) (g : Gauge) (r byte : ℕ) where
 
   -- a proof by the cases of the error, with what its row says of the gauge
   on-row : (P : ℕ → Type 0) → P 0 → P readOnly → (isSealed g ≡ true → P sealedRegister) → P invalidControl → P unknownClass → P unknownBlock
-      → (noneLoaded g ≡ true → P nothingLoaded) → (isProtected g ≡ true → P protectedBlock) → (Mismatched g r → P wrongChecksum)
-      → P (firstError (byteTests l g r byte))
-  on-row P none p2 p3 p9 p4 p5 p6 p7 p8 =
+      → (noneLoaded g ≡ true → P nothingLoaded) → (isProtected g ≡ true → P protectedBlock) → (Mismatched g r → P wrongChecksum) → P protectedKeys
+      → P (firstError (byteTests l image g r byte))
+  on-row P none p2 p3 p9 p4 p5 p6 p7 p8 p16 =
       on-cond P (row2 r) _ _ (λ _. p2) (λ _.
       on-cond P (row3 g r) _ _ (λ t. p3 (search (and-first, and-rest))) (λ _.
       on-cond P (row9 r byte) _ _ (λ _. p9) (λ _.
@@ -68,23 +69,24 @@ module _ (l : Layout) (g : Gauge) (r byte : ℕ) where
       on-cond P (row5 l g r byte) _ _ (λ _. p5) (λ _.
       on-cond P (row6 g r) _ _ (λ t. p6 (search (and-first, and-rest))) (λ n.
       on-cond P (row7 g r) _ _ (λ t. p7 (search (and-first, and-rest))) (λ p.
-      on-cond P (row8 g r byte) _ _ (λ t. p8 (mismatched n p t)) (λ _. none))))))))
+      on-cond P (row8 g r byte) _ _ (λ t. p8 (mismatched n p t)) (λ _.
+      on-cond P (row16 l image g r) _ _ (λ _. p16) (λ _. none)))))))))
 
 module _ (l : Layout) (image : List ℕ) (g : Gauge) (r byte : ℕ) (f : fits l (length image) ≡ true) where
   pub wrong-checksum : writeByte l image g r byte .answer .error ≡ wrongChecksum → Mismatched g r
   wrong-checksum e =
-      on-row l g r byte (λ e. e ≡ wrongChecksum → Mismatched g r) (λ z. absurd (omega arith)) (λ z. absurd (omega arith))
+      on-row l image g r byte (λ e. e ≡ wrongChecksum → Mismatched g r) (λ z. absurd (omega arith)) (λ z. absurd (omega arith))
       (λ _ z. absurd (omega arith)) (λ z. absurd (omega arith)) (λ z. absurd (omega arith)) (λ z. absurd (omega arith))
-      (λ _ z. absurd (omega arith)) (λ _ z. absurd (omega arith)) (λ m _. m) (rw (byte-error l image g r byte f) at e)
+      (λ _ z. absurd (omega arith)) (λ _ z. absurd (omega arith)) (λ m _. m) (λ z. absurd (omega arith)) (rw (byte-error l image g r byte f) at e)
 
   holds : let e = writeByte l image g r byte .answer .error in holdsFor (reasonOf e g) g g ≡ true
   unfolding reasonOf
   holds =
       let class = eq-eqb (g .class) (g .class) refl in
       rw (byte-error l image g r byte f)
-      (on-row l g r byte (λ e. holdsFor (reasonOf e g) g g ≡ true) refl refl (λ s. s) refl class
+      (on-row l image g r byte (λ e. holdsFor (reasonOf e g) g g ≡ true) refl refl (λ s. s) refl class
       (on-cond (λ (why : Reason). holdsFor why g g ≡ true) (generalAccess g) _ _ (λ _. class) (λ _. refl)) (λ n. n) (λ p. p)
-      (λ m. rw (m .loaded, same-refl (g .window))))
+      (λ m. rw (m .loaded, same-refl (g .window))) refl)
 
 abbrev Holds : Written → Type 0
 Holds w = holdsFor (reasonOf (w .error) (w .gauge)) (w .gauge) (w .gauge) ≡ true

@@ -7,13 +7,14 @@ use mathlib.Core.List.{List, [], _∷_, _++_}
 use lib.Dec.{eqb, leb}
 use lib.ListN.{length, take}
 use Rattle.checksum.specs.Checksum.{checksum}
-use Rattle.flashrules.specs.Error.{wrongChecksum}
+use Rattle.flashrules.specs.Error.{wrongChecksum, protectedKeys}
+use Rattle.flashrules.specs.Outcome.{outcome}
 use Rattle.flashrules.specs.Choice.{and, same, differing}
 use Rattle.flashrules.specs.Layout.{fits}
 use Rattle.flashrules.specs.Image.{Bytes}
 use Rattle.flashrules.specs.declared.layout.Layout.{Layout}
 use Rattle.gaugerules.specs.State.{isSealed, noneLoaded}
-use Rattle.gaugerules.specs.Transfer.{isProtected}
+use Rattle.gaugerules.specs.Transfer.{isProtected, changesKeys}
 use Rattle.gaugerules.specs.Write.{written, write}
 use Rattle.gaugerules.specs.Laws.{Good, Committed}
 use Rattle.gaugerules.specs.declared.state.Gauge.{Gauge}
@@ -128,11 +129,14 @@ ReasonTold =
 
 -- ---- the checksum that would have matched
 
--- written in place of the byte that was refused, it is accepted and commits
-abbrev pub ChecksumAccepted : Type 0
-ChecksumAccepted =
+-- written in place of the byte that was refused, it is accepted and commits; or, where an unsealed
+-- gauge would change a key, it is refused with 16, and nothing but the bytes before it stands
+abbrev pub ChecksumMatches : Type 0
+ChecksumMatches =
     (l : Layout) (image : List ℕ) (g : Gauge) (r : ℕ) (bytes : List ℕ) → Bytes bytes → Good l image g
     → let w = write l image g r bytes in
     w .answer .error ≡ wrongChecksum → let n = w .answer .accepted in let h = w .answer .gauge in
     let v = write l image g r (take n bytes ++ (checksum (h .window) ∷ [])) in
-    (v .answer ≡ written 0 (n + 1) (differing image (v .lent)) h) × Committed l image h (v .lent)
+    (changesKeys l image h ≡ false
+    → (v .answer ≡ written 0 (n + 1) (differing image (v .lent)) h) × Committed l image h (v .lent))
+    × (changesKeys l image h ≡ true → v ≡ outcome (written protectedKeys n 0 h) image)

@@ -17,7 +17,8 @@ use Rattle.flashrules.proofs.Laws.{differing-none}
 use Rattle.flashrules.proofs.DifferingLaws.{same-differing}
 use Rattle.flashrules.proofs.Picks.{on-test}
 use Rattle.gaugerules.specs.State.{fullAccess, noWord, withMode, withPending, withResult}
-use Rattle.gaugerules.specs.Word.{word, status, keyLength, asSent, keys, isKey, keyWanted, modeOpened, waits, opened, keyWord, withStatus, obey}
+use Rattle.gaugerules.specs.Keys.{keyLength, asSent, keys, isKey}
+use Rattle.gaugerules.specs.Word.{word, status, keyWanted, modeOpened, waits, opened, keyWord, withStatus, obey}
 use Rattle.gaugerules.specs.declared.state.Gauge.{Gauge}
 
 pub opens-by : (g r : Gauge) (m : ℕ) → r ≡ waits g noWord → m ≡ modeOpened g → withMode r m ≡ opened g

@@ -3,6 +3,10 @@
 use dataflash::block;
 use flashrules::layout::KEY_CLASS;
 use flashrules::layout::Layout;
+use gaugerules::keys::FULL_ACCESS_KEY;
+use gaugerules::keys::KEY_BLOCK;
+use gaugerules::keys::KEY_LENGTH;
+use gaugerules::keys::UNSEAL_KEY;
 use gaugerules::state::BOOT_SEALED;
 use gaugerules::state::FULL_ACCESS;
 use gaugerules::state::Gauge;
@@ -13,7 +17,8 @@ use gaugestate::state::restart;
 ghost use mathlib.Core.Path.{_≡_};
 ghost use Prim.Native.Nat.{_≤_, _<_};
 ghost use lib.ListN.{length, getD};
-ghost use Rattle.gaugerules.specs.Word.{word, status, fullAccessKey, isKey, keyWanted, modeOpened, waits, opened, keyWord, withStatus, obey};
+ghost use Rattle.gaugerules.specs.Keys.{fullAccessKey, isKey};
+ghost use Rattle.gaugerules.specs.Word.{word, status, keyWanted, modeOpened, waits, opened, keyWord, withStatus, obey};
 
 // The words that are never key words.
 const STATUS_WORD: u32 = 0x0000;
@@ -28,15 +33,6 @@ const STATUS_SEALED: u16 = 0x6000;
 const STATUS_UNSEALED: u16 = 0x4000;
 
 const STATUS_FULL_ACCESS: u16 = 0x0000;
-
-// The block of their class that holds the keys, and where they begin in it.
-const KEY_BLOCK: u8 = 0;
-
-const UNSEAL_KEY: usize = 0;
-
-const FULL_ACCESS_KEY: usize = 4;
-
-const KEY_LENGTH: usize = 4;
 
 fn status(gauge: Gauge) -> u16
     ensures { λ r. ⌜ r ≡ status gauge ⌝ }

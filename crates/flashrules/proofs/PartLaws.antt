@@ -1,6 +1,6 @@
 -- Laws of a part of a list, of a list that is pasted into another, and of elements that are set one
 -- by one.
-use Prim.Native.Nat.{ℕ, suc, _+_, _-_, _≤_, _<_}
+use Prim.Native.Nat.{ℕ, zero, suc, _+_, _-_, _≤_, _<_}
 use mathlib.Core.Path.{_≡_, refl, sym, ap, _∙_}
 use mathlib.Core.Logic.{_⊎_, ⊎-elim}
 use mathlib.Core.List.{List, [], _∷_, _++_, append-assoc}
@@ -8,10 +8,24 @@ use native.Mathlib.Nat.{zero-add, suc-add, add-suc}
 use native.Mathlib.Omega.{arith}
 use lib.ListN.{length, take, drop, getD, set, length-take, length-drop, length-append, length-set, take-append-drop, List·getD-append}
 use lib.Seq.{paste, sets, sets-eq, length-paste, length-take-le, take-at, drop-at, take-length, take-set-lt, set-append-left, drop-drop}
-use lib.Seq.{getD-append-add, getD-take, getD-drop, ext-getD, length-paste-head}
+use lib.Seq.{take-nil, getD-append-add, getD-take, getD-drop, ext-getD, length-paste-head}
 
 pub part-length : (f : List ℕ) (s k : ℕ) → s + k ≤ length f → length (take k (drop s f)) ≡ k
 part-length f s k h = simp (length-take, length-drop) (omega arith)
+
+-- a part of a list's front
+pub drop-front : (n m : ℕ) (x : List ℕ) → drop n (take (n + m) x) ≡ take m (drop n x)
+drop-front zero m x = rw zero-add
+drop-front (suc n) m [] = rw (take-nil (suc n + m), take-nil m)
+drop-front (suc n) m (a ∷ x) = let e : suc n + m ≡ suc (n + m) = omega arith in rw e (drop-front n m x)
+
+-- a part of two lists that agree there
+pub part-same : (f g : List ℕ) (s k : ℕ) → s + k ≤ length f → s + k ≤ length g → ((j : ℕ) → j < k → getD f (s + j) 0 ≡ getD g (s + j) 0)
+    → take k (drop s f) ≡ take k (drop s g)
+part-same f g s k hf hg e =
+    let long = part-length f s k hf in
+    ext-getD 0 _ _ (long ∙ sym (part-length g s k hg))
+    (λ j h. rw (getD-take k (drop s f) j 0 (omega (arith, long)), getD-take k (drop s g) j 0 (omega (arith, long)), getD-drop s f j 0, getD-drop s g j 0) (e j (omega (arith, long))))
 
 module _ (f w : List ℕ) (at n : ℕ) (end : at + n ≤ length f) (most : n ≤ length w) where
   pub part-paste : take n (drop at (paste f at w n)) ≡ take n w
@@ -34,15 +48,9 @@ module _ (f w : List ℕ) (at n : ℕ) (end : at + n ≤ length f) (most : n ≤
 
   -- a part that lies apart from what was pasted
   pub part-apart : (s k : ℕ) → s + k ≤ length f → (at + n ≤ s) ⊎ (s + k ≤ at) → take k (drop s (paste f at w n)) ≡ take k (drop s f)
-  part-apart s k h apart = ext-getD 0 _ _ (same ∙ sym (part-length f s k h)) (λ j g. at-j j (omega (arith, same)))
-    where
-      same : length (take k (drop s (paste f at w n))) ≡ k
-      same = part-length (paste f at w n) s k (omega (arith, length-paste f at w n end most))
-
-      at-j : (j : ℕ) → j < k → getD (take k (drop s (paste f at w n))) j 0 ≡ getD (take k (drop s f)) j 0
-      at-j j g =
-          rw (getD-take k (drop s (paste f at w n)) j 0 g, getD-take k (drop s f) j 0 g, getD-drop s (paste f at w n) j 0, getD-drop s f j 0)
-          (⊎-elim (λ (d : at + n ≤ s). paste-above (s + j) (omega arith)) (λ (d : s + k ≤ at). paste-below (s + j) (omega arith)) apart)
+  part-apart s k h apart =
+      part-same (paste f at w n) f s k (omega (arith, length-paste f at w n end most)) h
+      (λ j g. ⊎-elim (λ (d : at + n ≤ s). paste-above (s + j) (omega arith)) (λ (d : s + k ≤ at). paste-below (s + j) (omega arith)) apart)
 
 -- ---- elements that are set one by one
 

@@ -62,6 +62,10 @@ shortBuffer = 14
 abbrev pub invalidGauge : ℕ
 invalidGauge = 15
 
+-- 16: document 02, C-14, "Only full access may change keys."
+abbrev pub protectedKeys : ℕ
+protectedKeys = 16
+
 -- 18: document 02, C-11, "layouts differ"
 abbrev pub layoutMismatch : ℕ
 layoutMismatch = 18

@@ -38,5 +38,8 @@ pub const SHORT_BUFFER: u8 = 14;
 
 pub const INVALID_GAUGE: u8 = 15;
 
+// A commit that would change a key, without full access.
+pub const PROTECTED_KEYS: u8 = 16;
+
 // Two images whose layouts have other classes or lengths.
 pub const LAYOUT_MISMATCH: u8 = 18;

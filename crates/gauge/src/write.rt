@@ -2,7 +2,7 @@
 // refused byte alters neither gauge nor image; the bytes before it stand, and what a commit among
 // them changed is answered.
 use crate::register::decode;
-use blocktransfer::commit;
+use blockcommit::commit;
 use blocktransfer::edit;
 use blocktransfer::select_block;
 use blocktransfer::set_class;

@@ -9,7 +9,7 @@ use native.Mathlib.Omega.{arith}
 use lib.Dec.{ltb}
 use lib.ListN.{length, take, drop, set}
 use lib.Seq.{sets, drop-cons}
-use borrow.Author.Tests.{eq-eqb, le-ltb}
+use borrow.Author.Tests.{eqb-true, eq-eqb, le-ltb}
 use Rattle.checksum.specs.Checksum.{checksum}
 use Rattle.flashrules.specs.Error.{shortBuffer}
 use Rattle.flashrules.specs.Outcome.{outcome}
@@ -22,14 +22,15 @@ use Rattle.flashrules.proofs.Laws.{block-inside, loaded-length, store-edited}
 use Rattle.flashrules.proofs.PartLaws.{part-loaded}
 use Rattle.flashrules.proofs.RefusalLaws.{error-behind}
 use Rattle.flashrules.proofs.Picks.{on-test}
-use Rattle.gaugerules.specs.State.{controlFlash, isSealed, generalAccess, loadedOf, withClass, withWindow, unload}
+use Rattle.gaugerules.specs.State.{fullAccess, controlFlash, isSealed, isFullAccess, generalAccess, loadedOf, withClass, withWindow, unload}
+use Rattle.gaugerules.specs.Keys.{keyBytes}
 use Rattle.gaugerules.specs.Register.{dataFlashClass, blockData, blockDataChecksum, blockDataControl, registers, registerOf}
-use Rattle.gaugerules.specs.Transfer.{accept, setClass, loadBlock, selectBlock, isProtected, editError, edit, commitError, committed, setControl}
+use Rattle.gaugerules.specs.Transfer.{accept, setClass, loadBlock, selectBlock, isProtected, editError, edit, changesKeys, commitError, committed, setControl}
 use Rattle.gaugerules.specs.Write.{written, callTests, callError, commit, writeAt, writeByte, writeBytes, write}
 use Rattle.gaugerules.specs.Read.{readAt, readByte, readBytes, readError, reading, read}
 use Rattle.gaugerules.specs.Laws.{Good}
 use Rattle.gaugerules.specs.BlockAccess.{flashSelected, blockSelected, blockEdited, FlashSelects, SelectFlash, BlockSelects, SelectBlock, ReadBlock}
-use Rattle.gaugerules.specs.BlockAccess.{BlockWrites, WriteBlock}
+use Rattle.gaugerules.specs.BlockAccess.{BlockWrites, MayLeave, WriteBlock}
 use Rattle.gaugerules.specs.declared.state.Gauge.{Gauge}
 use Rattle.gaugerules.specs.declared.state.Loaded.{Loaded}
 use Rattle.gaugerules.specs.declared.register.Register.{Register}
@@ -37,6 +38,7 @@ use Rattle.gaugerules.proofs.LoadedLaws.{load-view}
 use Rattle.gaugerules.proofs.RegisterLaws.{on-register}
 use Rattle.gaugerules.proofs.RunLaws.{goes-on, calls-with}
 use Rattle.gaugerules.proofs.ValidLaws.{write-good}
+use Rattle.gaugerules.proofs.KeyProtectionLaws.{key-change}
 
 -- ---- calls of a good gauge
 
@@ -168,7 +170,8 @@ runs-edits l image (b ∷ bs) g o n e h =
     ∙ ap (λ (j : ℕ). outcome (written 0 j 0 (withWindow g (sets (set (g .window) o b) (suc o) bs))) image) m
 
 module _ (l : Layout) (image : List ℕ) (g : Gauge) (i b s k : ℕ) (good : Good l image g) (a : generalAccess g ≡ true) (hi : i ≤ maxByte) (hb : b ≤ maxByte)
-    (p : findBlock l (length image) i b ≡ Lookup.Found s k) (o : ℕ) (bs : List ℕ) (bytes : Bytes bs) (some : 1 ≤ length bs) (end : o + length bs ≤ k) where
+    (p : findBlock l (length image) i b ≡ Lookup.Found s k) (o : ℕ) (bs : List ℕ) (bytes : Bytes bs) (some : 1 ≤ length bs) (end : o + length bs ≤ k)
+    (may : MayLeave l image g (sets image (s + o) bs)) where
   abbrev loaded : Gauge
   loaded = blockSelected l image g i b
 
@@ -196,10 +199,24 @@ module _ (l : Layout) (image : List ℕ) (g : Gauge) (i b s k : ℕ) (good : Goo
   abbrev after : List ℕ
   after = sets image (s + o) bs
 
+  stores : committed l image edited ≡ after
+  unfolding committed
+  stores = rw is-loaded (store-edited l image i b s k p o bs end)
+
+  -- 16 is not given
+  free : changesKeys l image edited ≡ false
+  unfolding changesKeys
+  free =
+      ⊎-elim (λ (f : isFullAccess g ≡ true). rw (eqb-true (g .mode) fullAccess f))
+      (λ (e : keyBytes l after ≡ keyBytes l image).
+      on-test (changesKeys l image edited)
+      (λ c. absurd (key-change l image edited (edited-good .fits) (edited-good .valid) .0 c .1 (ap (keyBytes l) stores ∙ e))) (λ n. n))
+      may
+
   commits-edited : write l image edited blockDataChecksum (checksum (edited .window) ∷ []) ≡ outcome (written 0 1 (differing image after) edited) after
   unfolding writeBytes writeByte writeAt registerOf commit commitError committed isProtected outcome
   commits-edited =
-      rw (runs-whole l image edited blockDataChecksum (checksum (edited .window) ∷ []) edited-good (omega arith) (omega arith), is-loaded, not-sealed g a, eq-eqb (checksum (edited .window)) (checksum (edited .window)) refl)
+      rw (runs-whole l image edited blockDataChecksum (checksum (edited .window) ∷ []) edited-good (omega arith) (omega arith), is-loaded, not-sealed g a, eq-eqb (checksum (edited .window)) (checksum (edited .window)) refl, free)
       (ap (λ (to : List ℕ). outcome (written 0 1 (0 + differing image to) edited) to) (store-edited l image i b s k p o bs end)
       ∙ ap (λ (n : ℕ). outcome (written 0 1 n edited) after) (zero-add (differing image after)))
 

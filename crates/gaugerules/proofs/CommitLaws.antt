@@ -19,7 +19,7 @@ use Rattle.flashrules.proofs.Picks.{on-test, on-answer}
 use Rattle.gaugerules.specs.State.{loadedOf, noneLoaded}
 use Rattle.gaugerules.specs.Valid.{loadedValid}
 use Rattle.gaugerules.specs.Register.{registerOf}
-use Rattle.gaugerules.specs.Transfer.{byteWritten, refuse, isProtected, commitError, committed}
+use Rattle.gaugerules.specs.Transfer.{byteWritten, refuse, isProtected, changesKeys, commitError, committed}
 use Rattle.gaugerules.specs.Write.{commit, writeAt, writeByte}
 use Rattle.gaugerules.specs.Laws.{commits, Committed, CommitRule}
 use Rattle.gaugerules.specs.declared.state.Gauge.{Gauge}
@@ -28,13 +28,15 @@ use Rattle.gaugerules.proofs.LoadedLaws.{committable}
 use Rattle.gaugerules.proofs.ValidLaws.{Valid, valid-parts}
 
 -- the refusals of a byte at 0x60 are what `commits` asks, so it is accepted exactly if it commits
-commit-error : (l : Layout) (image : List ℕ) (g : Gauge) (byte : ℕ) → eqb (commitError l image g byte) 0 ≡ commits g byte
+commit-error : (l : Layout) (image : List ℕ) (g : Gauge) (byte : ℕ) → eqb (commitError l image g byte) 0 ≡ commits l image g byte
 unfolding commitError
 commit-error l image g byte =
     on-test (noneLoaded g) (λ p. rw p)
     (λ p.
     on-test (isProtected g) (λ q. rw (p, q))
-    (λ q. on-test (eqb byte (checksum (g .window))) (λ e. rw (p, q, e)) (λ e. rw (p, q, e))))
+    (λ q.
+    on-test (changesKeys l image g) (λ k. on-test (eqb byte (checksum (g .window))) (λ e. rw (p, q, k, e)) (λ e. rw (p, q, k, e)))
+    (λ k. on-test (eqb byte (checksum (g .window))) (λ e. rw (p, q, k, e)) (λ e. rw (p, q, k, e)))))
 
 module _ (l : Layout) (image : List ℕ) (g : Gauge) (byte : ℕ) where
   -- the loaded block of a valid gauge exists, so the lookup finds it, and what is found has bytes
@@ -59,7 +61,7 @@ module _ (l : Layout) (image : List ℕ) (g : Gauge) (byte : ℕ) where
         outside = store-outside l image i b (g .window) (v .range .window);
       })
 
-  commit-done : fits l (length image) ≡ true → Valid l g → commits g byte ≡ true
+  commit-done : fits l (length image) ≡ true → Valid l g → commits l image g byte ≡ true
       → let s = commit l image g byte in (s .answer ≡ byteWritten 0 (differing image (s .lent)) g) × Committed l image g (s .lent)
   unfolding commit outcome
   commit-done f v c =
@@ -67,7 +69,7 @@ module _ (l : Layout) (image : List ℕ) (g : Gauge) (byte : ℕ) where
       let e = committable l image g byte (eqb-true _ _ q) in
       rw q (refl, stored f v (e .class) (e .block) (e .loaded))
 
-  commit-refused : commits g byte ≡ false → let s = commit l image g byte in let e = s .answer .error in
+  commit-refused : commits l image g byte ≡ false → let s = commit l image g byte in let e = s .answer .error in
       (e ≡ 0 → ⊥) × (s ≡ outcome (refuse e g) image)
   unfolding commit outcome
   commit-refused c =

@@ -9,7 +9,7 @@ use lib.Dec.{eqb, leb, ltb}
 use lib.ListN.{length}
 use borrow.Author.Tests.{ne-eqb, le-leb, lt-leb}
 use Rattle.checksum.specs.Checksum.{checksum}
-use Rattle.flashrules.specs.Error.{unknownBlock}
+use Rattle.flashrules.specs.Error.{unknownBlock, protectedKeys}
 use Rattle.flashrules.specs.Refusal.{firstError}
 use Rattle.flashrules.specs.Outcome.{outcome}
 use Rattle.flashrules.specs.Layout.{infoClass, classes, locate, fits}
@@ -23,7 +23,7 @@ use Rattle.flashrules.proofs.RefusalLaws.{first-in}
 use Rattle.flashrules.proofs.Picks.{on-test, on-answer}
 use Rattle.gaugerules.specs.State.{controlInfo, infoBlocks, isSealed, generalAccess, noneLoaded, load}
 use Rattle.gaugerules.specs.Register.{blockData, registerOf}
-use Rattle.gaugerules.specs.Transfer.{accept, refuse, setClass, loadBlock, selectsInfo, selectBlock, isProtected, editError, edit, commitError, setControl}
+use Rattle.gaugerules.specs.Transfer.{accept, refuse, setClass, loadBlock, selectsInfo, selectBlock, isProtected, changesKeys, editError, edit, commitError, setControl}
 use Rattle.gaugerules.specs.Write.{commit, writeAt, writeByte}
 use Rattle.gaugerules.specs.Table.{byteTests}
 use Rattle.gaugerules.specs.Laws.{ByteError, ByteErrors, InfoLoads}
@@ -58,7 +58,7 @@ info-loads l image g b f n h =
 module _ (l : Layout) (image : List ℕ) (g : Gauge) (byte : ℕ) (f : fits l (length image) ≡ true) where
   -- what the rows come to, at this register
   abbrev rows : ℕ → ℕ
-  rows r = firstError (byteTests l g r byte)
+  rows r = firstError (byteTests l image g r byte)
 
   at-class : setClass g byte .error ≡ rows 0x3E
   unfolding setClass
@@ -118,7 +118,9 @@ module _ (l : Layout) (image : List ℕ) (g : Gauge) (byte : ℕ) (f : fits l (l
       on-test (noneLoaded g) (λ n. rw n)
       (λ n.
       on-test (isProtected g) (λ p. rw (n, p))
-      (λ p. on-test (eqb byte (checksum (g .window))) (λ s. rw (n, p, s)) (λ s. rw (n, p, s))))
+      (λ p.
+      on-test (changesKeys l image g) (λ k. on-test (eqb byte (checksum (g .window))) (λ s. rw (n, p, k, s)) (λ s. rw (n, p, k, s)))
+      (λ k. on-test (eqb byte (checksum (g .window))) (λ s. rw (n, p, k, s)) (λ s. rw (n, p, k, s)))))
 
   at-other : (r : ℕ) → 0x01 < r → (r < 0x3E) ⊎ (0x61 < r) → 2 ≡ rows r
   at-other r h =
@@ -139,19 +141,28 @@ pub byte-errors : ByteErrors
 byte-errors l image g r byte f = rw (byte-error l image g r byte f) any
   where
     Few : ℕ → Type 0
-    Few e = (e ≡ 0) ⊎ ((2 ≤ e) × (e ≤ 9))
+    Few e = (e ≡ 0) ⊎ (((2 ≤ e) × (e ≤ 9)) ⊎ (e ≡ protectedKeys))
 
-    any : Few (firstError (byteTests l g r byte))
+    row : {e : ℕ} → 2 ≤ e → e ≤ 9 → Few e
+    row low high = inr (inl (low, high))
+
+    any : Few (firstError (byteTests l image g r byte))
     any =
-        first-in Few (byteTests l g r byte) (inl refl) (
-          inr (omega arith, omega arith),
+        first-in Few (byteTests l image g r byte) (inl refl) (
+          row (omega arith) (omega arith),
           (
-            inr (omega arith, omega arith),
+            row (omega arith) (omega arith),
             (
-              inr (omega arith, omega arith),
+              row (omega arith) (omega arith),
               (
-                inr (omega arith, omega arith),
-                (inr (omega arith, omega arith), (inr (omega arith, omega arith), (inr (omega arith, omega arith), (inr (omega arith, omega arith), tt)))),
+                row (omega arith) (omega arith),
+                (
+                  row (omega arith) (omega arith),
+                  (
+                    row (omega arith) (omega arith),
+                    (row (omega arith) (omega arith), (row (omega arith) (omega arith), (inr (inr refl), tt))),
+                  ),
+                ),
               ),
             ),
           ),

@@ -1,34 +1,24 @@
 -- A call unseals a sealed gauge exactly by the unseal key: the pending word is always the last word
--- obeyed, or none where that is no key word. Only bytes at 0x00 and 0x01 touch what decides this,
--- and a write makes one word at most, since the register after 0x01 takes no write.
-use Prim.Native.Nat.{ℕ, _+_, _-_, _≤_, _<_}
+-- obeyed, or none where that is no key word.
+use Prim.Native.Nat.{ℕ, _≤_}
 use mathlib.Core.Path.{_≡_, refl, sym, _∙_}
 use mathlib.Core.Bool.{Bool, true, false, cond, not, true≢false}
 use mathlib.Core.List.{List, [], _∷_, _++_}
 use native.Mathlib.Omega.{arith}
 use lib.Dec.{eqb}
-use lib.ListN.{length, getD, take}
-use borrow.Author.Tests.{ne-eqb, eqb-true, eqb-false}
-use Rattle.flashrules.specs.Outcome.{Outcome, outcome}
-use Rattle.flashrules.specs.Layout.{infoClass}
-use Rattle.flashrules.specs.Image.{maxByte, Bytes}
+use lib.ListN.{getD}
+use borrow.Author.Tests.{ne-eqb}
+use Rattle.flashrules.specs.Image.{maxByte}
 use Rattle.flashrules.specs.declared.layout.Layout.{Layout}
 use Rattle.flashrules.proofs.Picks.{pick-last, on-test, on-cond}
 use Rattle.gaugerules.specs.State.{sealed, bootSealed, noWord, isSealed, withLow, powerOn, restart}
 use Rattle.gaugerules.specs.Valid.{maxWord}
-use Rattle.gaugerules.specs.Register.{controlLow, controlHigh, registerOf}
-use Rattle.gaugerules.specs.Word.{word, statusWord, sealWord, resetWord, unsealKey, keys, isKey, waits, opened, keyWord, withStatus, obey}
-use Rattle.gaugerules.specs.Transfer.{accept, loadBlock}
-use Rattle.gaugerules.specs.Write.{writeAt, writeByte, writeBytes, callError, write}
-use Rattle.gaugerules.specs.Script.{Device, device, Call, toWrite, toRead, afterCall, unseals, made, obeyed, mayBeKey, entersKey}
+use Rattle.gaugerules.specs.Keys.{unsealKey, keys, isKey}
+use Rattle.gaugerules.specs.Word.{word, statusWord, sealWord, resetWord, waits, opened, keyWord, withStatus, obey}
+use Rattle.gaugerules.specs.Script.{Device, device, Call, toWrite, toRead, afterCall, unseals, obeyed, mayBeKey, entersKey}
 use Rattle.gaugerules.specs.Noninterference.{CallBytes, ByKeyAlone, UnsealsByKey}
 use Rattle.gaugerules.specs.declared.state.Gauge.{Gauge}
-use Rattle.gaugerules.specs.declared.register.Register.{Register}
-use Rattle.gaugerules.specs.declared.answer.ByteWritten.{ByteWritten}
-use Rattle.gaugerules.specs.declared.answer.Written.{Written}
-use Rattle.gaugerules.proofs.RegisterLaws.{on-register}
-use Rattle.gaugerules.proofs.ByteCases.{on-class, on-control, on-edit, on-load, on-select, on-commit}
-use Rattle.gaugerules.proofs.RunLaws.{goes-on}
+use Rattle.gaugerules.proofs.LockLaws.{Lock, lock, writes}
 
 -- ---- entering the key, by the word that is pending
 
@@ -54,16 +44,6 @@ module _ (l : Layout) (image : List ℕ) (w : ℕ) where
   enters-key (u ∷ past) p h = on-test (mayBeKey u) (λ q. rw (q, p, ne-eqb u noWord (λ e. omega arith)) (sym (pick-last _ _ refl))) (λ q. rw q)
 
 -- ---- the invariant
-
--- the part of a gauge on which it depends whether a call unseals it
-record Lock : Type 0 where
-  mode : ℕ
-  boot : ℕ
-  low : ℕ
-  pending : ℕ
-
-abbrev lock : Gauge → Lock
-lock g = record { mode = g .mode; boot = g .boot; low = g .low; pending = g .pending }
 
 -- sealed, after the words `past`, the last one first
 record Sealed (k : Lock) (past : List ℕ) : Type 0 where
@@ -117,111 +97,27 @@ module _ (l : Layout) (image : List ℕ) (g : Gauge) (past : List ℕ) (v : Seal
       on-cond Obeyed (eqb w resetWord) _ _ (λ r. obeys-other (rw (p, q, r)) (lock (restart g (g .boot))) (rw (v .boot)) (rw (v .boot)) (omega arith) refl)
       (λ r. obeys-key (rw (p, q, r)))))
 
--- ---- a byte at any register but 0x00 and 0x01 leaves the lock
-
-not-control : (r : ℕ) → controlHigh < r → (eqb r controlLow ≡ false) × (eqb r controlHigh ≡ false)
-not-control r h = (ne-eqb r controlLow (λ e. omega arith), ne-eqb r controlHigh (λ e. omega arith))
-
-module _ (l : Layout) (image : List ℕ) (g : Gauge) (byte : ℕ) where
-  abbrev Keeps : ByteWritten → Type 0
-  Keeps s = lock (s .gauge) ≡ lock g
-
-  load-keeps : (i b : ℕ) → Keeps (loadBlock l image g byte i b)
-  load-keeps i b = on-load Keeps g byte l image i b (λ s k p. refl) (λ e. refl)
-
-  byte-keeps : (r : ℕ) → controlHigh < r → lock (writeByte l image g r byte .answer .gauge) ≡ lock g
-  unfolding writeByte writeAt outcome
-  byte-keeps r h =
-      on-register (λ (k : Register). lock (writeAt k l image g byte .answer .gauge) ≡ lock g) r (λ e. absurd (omega arith)) (λ e. absurd (omega arith))
-      (λ _. on-class Keeps g byte refl (λ _. refl))
-      (λ _. on-select Keeps g byte l image (λ _. load-keeps (g .class) byte) (λ _ _. load-keeps infoClass (byte - 1)) refl)
-      (λ k _ _. on-edit Keeps g byte k (λ _. refl) refl)
-      (λ _. on-commit (λ (s : Outcome ByteWritten (List ℕ)). lock (s .answer .gauge) ≡ lock g) l image g byte (λ _. refl) refl)
-      (λ _. on-control Keeps g byte refl (λ _ _. refl) refl)
-      (λ _ _. refl)
-
--- so does a run that begins above them, since its registers only grow
-run-keeps : (l : Layout) (bs image : List ℕ) (g : Gauge) (r n c : ℕ) → controlHigh < r → lock (writeBytes l image g r n c bs .answer .gauge) ≡ lock g
-unfolding writeBytes outcome
-run-keeps l [] image g r n c h = refl
-run-keeps l (b ∷ bs) image g r n c h =
-    let s = writeByte l image g r b in
-    let e : lock (s .answer .gauge) ≡ lock g = byte-keeps l image g b r h in
-    on-test (eqb (s .answer .error) 0)
-    (λ p. rw p (run-keeps l bs (s .lent) (s .answer .gauge) (r + 1) (n + 1) (c + s .answer .changed) (omega arith) ∙ e)) (λ p. rw p e)
-
--- ---- the run of a write makes one word or none
-
-none-made : (low r : ℕ) (bs : List ℕ) → controlHigh < r → made low r bs ≡ []
-unfolding made
-none-made low r [] h = refl
-none-made low r (b ∷ bs) h = rw (not-control r h .0, not-control r h .1)
-
-module _ (l : Layout) (image : List ℕ) where
-  -- a byte at 0x00 is the low byte of the next word
-  run-low : (g : Gauge) (b : ℕ) (bs : List ℕ) → writeBytes l image g controlLow 0 0 (b ∷ bs) ≡ writeBytes l image (withLow g b) controlHigh 1 0 bs
-  unfolding writeByte writeAt registerOf outcome
-  run-low g b bs = goes-on l image g controlLow 0 0 b bs (accept (withLow g b)) image refl refl
-
-  -- a byte at 0x01 makes a word, and no byte after it is accepted
-  run-high : (g : Gauge) (n b : ℕ) (bs : List ℕ) → let w = writeBytes l image g controlHigh n 0 (b ∷ bs) in
-      (w .answer .gauge ≡ obey l image g (word (g .low) b)) × (w .answer .accepted ≡ n + 1)
-  unfolding writeBytes writeByte writeAt registerOf outcome
-  run-high g n b [] = (refl, refl)
-  run-high g n b (c ∷ bs) = (refl, refl)
-
-  module _ (past : List ℕ) where
-    no-word : (k : Lock) → Sealed k past → Becomes l image past [] k
-    unfolding entersKey
-    no-word k v = record { by-key = rw (v .mode); or-sealed = λ _. v }
-
-    one-word : (g : Gauge) → Sealed (lock g) past → (b : ℕ) → b ≤ maxByte
-        → Becomes l image past (word (g .low) b ∷ []) (lock (obey l image g (word (g .low) b)))
-    one-word g v b h = obeys l image g past v (word (g .low) b) (omega (arith, v .low))
-
-    module _ (g : Gauge) (v : Sealed (lock g) past) where
-      with-low : (b : ℕ) → b ≤ maxByte → Sealed (lock (withLow g b)) past
-      with-low b h = record { mode = v .mode; boot = v .boot; low = h; pending = v .pending; last = v .last }
-
-      abbrev RunBecomes : ℕ → List ℕ → Outcome Written (List ℕ) → Type 0
-      RunBecomes r bytes w = Becomes l image past (made (g .low) r (take (w .answer .accepted) bytes)) (lock (w .answer .gauge))
-
-      runs-low : (bytes : List ℕ) → Bytes bytes → RunBecomes controlLow bytes (writeBytes l image g controlLow 0 0 bytes)
-      unfolding writeBytes outcome made
-      runs-low [] s = no-word (lock g) v
-      runs-low (b ∷ []) s = rw (run-low g b []) (no-word (lock (withLow g b)) (with-low b (s 0)))
-      runs-low (b ∷ c ∷ bs) s =
-          let w = run-high (withLow g b) 1 c bs in
-          rw (run-low g b (c ∷ bs), w .0, w .1) (one-word (withLow g b) (with-low b (s 0)) c (s 1))
-
-      runs-high : (bytes : List ℕ) → Bytes bytes → RunBecomes controlHigh bytes (writeBytes l image g controlHigh 0 0 bytes)
-      unfolding writeBytes outcome made
-      runs-high [] s = no-word (lock g) v
-      runs-high (b ∷ bs) s = let w = run-high g 0 b bs in rw (w .0, w .1) (one-word g v b (s 0))
-
-      runs-above : (r : ℕ) (bytes : List ℕ) → controlHigh < r → RunBecomes r bytes (writeBytes l image g r 0 0 bytes)
-      runs-above r bytes h =
-          rw (none-made (g .low) r (take (writeBytes l image g r 0 0 bytes .answer .accepted) bytes) h, run-keeps l bytes image g r 0 0 h) (no-word (lock g) v)
-
-      runs : (r : ℕ) (bytes : List ℕ) → Bytes bytes → RunBecomes r bytes (writeBytes l image g r 0 0 bytes)
-      runs r bytes s =
-          on-test (eqb r controlLow) (λ p. rw (eqb-true r controlLow p) (runs-low bytes s)) (λ p.
-          on-test (eqb r controlHigh) (λ q. rw (eqb-true r controlHigh q) (runs-high bytes s)) (λ q.
-          runs-above r bytes (omega (arith, eqb-false r controlLow p, eqb-false r controlHigh q))))
-
-      -- a write that fails the checks takes no byte
-      writes : (r : ℕ) (bytes : List ℕ) → Bytes bytes → RunBecomes r bytes (write l image g r bytes)
-      unfolding write outcome made
-      writes r bytes s =
-          on-test (eqb (callError l (length image) g r (length bytes)) 0) (λ p. rw p (runs r bytes s)) (λ p. rw p (no-word (lock g) v))
-
 -- ---- a call, and a script
+
+module _ (l : Layout) (image past : List ℕ) where
+  no-word : (g : Gauge) → Sealed (lock g) past → Becomes l image past [] (lock g)
+  unfolding entersKey
+  no-word g v = record { by-key = rw (v .mode); or-sealed = λ _. v }
+
+  one-word : (g : Gauge) (b : ℕ) → b ≤ maxByte → Sealed (lock g) past
+      → Becomes l image past (word (g .low) b ∷ []) (lock (obey l image g (word (g .low) b)))
+  one-word g b h v = obeys l image g past v (word (g .low) b) (omega (arith, v .low))
+
+  with-low : (g : Gauge) (b : ℕ) → b ≤ maxByte → Sealed (lock g) past → Sealed (lock (withLow g b)) past
+  with-low g b h v = record { mode = v .mode; boot = v .boot; low = h; pending = v .pending; last = v .last }
 
 calls : (l : Layout) (d : Device) (past : List ℕ) → Sealed (lock (d .gauge)) past → (c : Call) → CallBytes c
     → Becomes l (d .image) past (obeyed l d c) (lock (afterCall l d c .gauge))
 unfolding afterCall obeyed
-calls l d past v (toWrite r bytes) s = writes l (d .image) past (d .gauge) v r bytes s
-calls l d past v (toRead r n buffer) s = no-word l (d .image) past (lock (d .gauge)) v
+calls l d past v (toWrite r bytes) s =
+    writes l (d .image) (λ b. b ≤ maxByte) (λ g. Sealed (lock g) past) (Becomes l (d .image) past) (with-low l (d .image) past) (no-word l (d .image) past)
+    (one-word l (d .image) past) (d .gauge) v r bytes s
+calls l d past v (toRead r n buffer) s = no-word l (d .image) past (d .gauge) v
 
 unseals-is : (l : Layout) (d : Device) (c : Call) → isSealed (d .gauge) ≡ true → unseals l d c ≡ not (isSealed (afterCall l d c .gauge))
 unfolding unseals

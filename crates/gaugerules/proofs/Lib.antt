@@ -5,7 +5,10 @@ pub mod BlockAccessLaws
 pub mod ByteCases
 pub mod RunLaws
 pub mod ByteLaws
+pub mod LockLaws
 pub mod KeyLaws
+pub mod KeyProtectionLaws
+pub mod WithoutKeyLaws
 pub mod ValidLaws
 pub mod WindowLaws
 pub mod CommitLaws

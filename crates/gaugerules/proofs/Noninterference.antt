@@ -25,9 +25,10 @@ use Rattle.gaugerules.specs.State.{sealed, bootSealed, noBlock, controlI
 use Rattle.gaugerules.specs.State.{isSealed, isFullAccess, nonePending, loadedOf, withLow, powerOn, restart}
 use Rattle.gaugerules.specs.Valid.{valid, onlyInfoLoaded}
 use Rattle.gaugerules.specs.Register.{registerOf}
-use Rattle.gaugerules.specs.Word.{word, statusWord, sealWord, resetWord, keys, isKey, keyWanted, waits, keyWord, withStatus, obey}
+use Rattle.gaugerules.specs.Keys.{keys, isKey}
+use Rattle.gaugerules.specs.Word.{word, statusWord, sealWord, resetWord, keyWanted, waits, keyWord, withStatus, obey}
 use Rattle.gaugerules.specs.Transfer.{byteWritten, accept, refuse, setClass, loadBlock, selectsInfo, selectBlock, isProtected, edit}
-use Rattle.gaugerules.specs.Transfer.{commitError, committed, setControl}
+use Rattle.gaugerules.specs.Transfer.{changesKeys, commitError, committed, setControl}
 use Rattle.gaugerules.specs.Write.{commit, writeAt, writeByte, written, writeBytes, callError, write}
 use Rattle.gaugerules.specs.Read.{read}
 use Rattle.gaugerules.specs.Script.{Device, device, Call, toWrite, toRead, reply, afterCall, unseals}
@@ -291,10 +292,10 @@ module _ (l : Layout) (start₁ start₂ : List ℕ) where
         let b = i .number in
         rw (i .is, store-differing l image₁ infoClass b (g .window) (q .whole), store-differing l image₂ infoClass b (g .window) (q .whole), t .agree .info b (i .few))
 
-    -- the refusals of a commit ask nothing of the image
+    -- the refusals of a commit ask nothing of the image: 16 is never given to a sealed gauge
     same-error : commitError l image₁ g byte ≡ commitError l image₂ g byte
-    unfolding commitError
-    same-error = refl
+    unfolding commitError changesKeys
+    same-error = rw (eqb-true (g .mode) sealed (q .is-sealed))
 
     at-checksum : BothBytes (commit l image₁ g byte) (commit l image₂ g byte)
     unfolding commit

@@ -25,6 +25,9 @@ module _ (j k v : ℕ) (p : k ≡ j) where
   pub last-eq : eqb k v ≡ cond (eqb j v) true false
   last-eq = pick-last (eqb k v) (eqb j v) (rw p)
 
+  pub last-ne : not (eqb k v) ≡ cond (not (eqb j v)) true false
+  last-ne = pick-last (not (eqb k v)) (not (eqb j v)) (rw p)
+
   pub last-lt : ltb k v ≡ cond (ltb j v) true false
   last-lt = pick-last (ltb k v) (ltb j v) (rw p)
 
@@ -51,7 +54,7 @@ byte-gauge s h k p e = rw p at e
 pub byte-error : (s : ByteWritten) (j k : ℕ) (g : Gauge) → k ≡ j → s ≡ refuse k g → s ≡ refuse j g
 byte-error s j k g p e = rw p at e
 
-pub ruleset byteRules = (right-eq, right-ne, last-eq, last-lt, call-none, call-block, none-first, block-first, byte-gauge, byte-error)
+pub ruleset byteRules = (right-eq, right-ne, last-eq, last-ne, last-lt, call-none, call-block, none-first, block-first, byte-gauge, byte-error)
 
 -- a proof by the cases of what is loaded, which keeps what the case says
 pub on-loaded : {P : Type 0} (a : Loaded) → (a ≡ Loaded.None → P) → ((i b : ℕ) → a ≡ Loaded.Block i b → P) → P

@@ -15,8 +15,9 @@ use Rattle.flashrules.proofs.Laws.{same-layout}
 use Rattle.gaugerules.specs.State.{loadedOf}
 use Rattle.gaugerules.specs.Valid.{valid}
 use Rattle.gaugerules.specs.Register.{registerOf}
-use Rattle.gaugerules.specs.Word.{keyBlock, keyWord, obey}
-use Rattle.gaugerules.specs.Transfer.{loadBlock, selectBlock, committed, commitError}
+use Rattle.gaugerules.specs.Keys.{keyBlock}
+use Rattle.gaugerules.specs.Word.{keyWord, obey}
+use Rattle.gaugerules.specs.Transfer.{loadBlock, selectBlock, changesKeys, committed, commitError}
 use Rattle.gaugerules.specs.Write.{commit, writeAt, writeByte, written, writeBytes, callError, write}
 use Rattle.gaugerules.specs.Read.{readError, read}
 use Rattle.gaugerules.specs.Script.{Device, Call, toWrite, toRead, reply, afterCall}
@@ -51,13 +52,13 @@ module _ (l l′ : Layout) (s : SameClasses l l′) where
   same-committed image g = on-loaded (loadedOf (g .loaded)) (λ p. rw p) (λ i b p. rw (p, same-store image i b (g .window)))
 
   same-at : (k : Register) (image : List ℕ) (g : Gauge) (byte : ℕ) → writeAt k l image g byte ≡ writeAt k l′ image g byte
-  unfolding writeAt obey keyWord selectBlock commit commitError
+  unfolding writeAt obey keyWord selectBlock commit commitError changesKeys
   same-at Register.ControlLow image g byte = refl
   same-at Register.ControlHigh image g byte = rw (same-bytes image keyClass keyBlock)
   same-at Register.DataFlashClass image g byte = refl
   same-at Register.DataFlashBlock image g byte = rw (same-load image g byte (g .class) byte, same-load image g byte infoClass (byte - 1))
   same-at (Register.BlockData k) image g byte = refl
-  same-at Register.BlockDataChecksum image g byte = rw (same-committed image g)
+  same-at Register.BlockDataChecksum image g byte = rw (same-committed image g, same-bytes image keyClass keyBlock)
   same-at Register.BlockDataControl image g byte = refl
   same-at Register.Other image g byte = refl
 

@@ -23,7 +23,8 @@ use Rattle.gaugerules.specs.State.{isSealed, isFullAccess, nonePending, 
 use Rattle.gaugerules.specs.State.{powerOn, load, unload}
 use Rattle.gaugerules.specs.Valid.{maxWord, inRange, loadedValid, pendingValid, sealedValid, valid}
 use Rattle.gaugerules.specs.Register.{registerOf}
-use Rattle.gaugerules.specs.Word.{word, statusWord, sealWord, resetWord, status, keys, isKey, keyWanted, keyWord, waits, opened, obey}
+use Rattle.gaugerules.specs.Keys.{keys, isKey}
+use Rattle.gaugerules.specs.Word.{word, statusWord, sealWord, resetWord, status, keyWanted, keyWord, waits, opened, obey}
 use Rattle.gaugerules.specs.Transfer.{byteWritten, setClass, loadBlock, selectBlock, edit, commitError, committed, setControl}
 use Rattle.gaugerules.specs.Write.{writeAt, writeByte, writeBytes, callError, write}
 use Rattle.gaugerules.specs.Laws.{Good, PowerOnValid, ByteGood, WriteGood}

@@ -51,15 +51,15 @@ run-above l bs image g r n c h = run-unreached l bs image g r n c (λ k. omega (
 
 -- a byte at 0x60 that is accepted commits
 byte-commits : (l : Layout) (image : List ℕ) (g : Gauge) (r b : ℕ) → Good l image g → r ≡ blockDataChecksum → let s = writeByte l image g r b in
-    s .answer .error ≡ 0 → (commits g b ≡ true) × Committed l image g (s .lent)
+    s .answer .error ≡ 0 → (commits l image g b ≡ true) × Committed l image g (s .lent)
 byte-commits l image g r b o at =
     let rule = commit-rule l image g b (o .fits) (o .valid) in
-    rw at (λ e. on-test (commits g b) (λ c. (c, rule .0 c .1)) (λ c. absurd (rule .1 c .0 e)))
+    rw at (λ e. on-test (commits l image g b) (λ c. (c, rule .0 c .1)) (λ c. absurd (rule .1 c .0 e)))
 
 -- what is claimed of a run over bs, before whose 0x60 m bytes come: the byte there is accepted if
 -- more than these are
 abbrev Runs : Layout → List ℕ → ℕ → ℕ → List ℕ → Outcome Written (List ℕ) → Gauge → Type 0
-Runs l image n m bs w met = n + m < w .answer .accepted → (commits met (getD bs m 0) ≡ true) × Committed l image met (w .lent)
+Runs l image n m bs w met = n + m < w .answer .accepted → (commits l image met (getD bs m 0) ≡ true) × Committed l image met (w .lent)
 
 module _ (l : Layout) (image : List ℕ) (g : Gauge) (r n c b : ℕ) (bs : List ℕ) (o : Good l image g) where
   abbrev s : Outcome ByteWritten (List ℕ)
@@ -135,7 +135,7 @@ write-unreached l image g r bytes =
 write-reached : (l : Layout) (image : List ℕ) (g : Gauge) (r : ℕ) (bytes : List ℕ) → Bytes bytes → Good l image g
     → let w = write l image g r bytes in
     let met = writeBytes l image g r 0 0 (take (blockDataChecksum - r) bytes) .answer .gauge in
-    Reached r (w .answer .accepted) → (commits met (getD bytes (blockDataChecksum - r) 0) ≡ true) × Committed l image met (w .lent)
+    Reached r (w .answer .accepted) → (commits l image met (getD bytes (blockDataChecksum - r) 0) ≡ true) × Committed l image met (w .lent)
 unfolding write outcome
 write-reached l image g r bytes h o =
     on-test (eqb (callError l (length image) g r (length bytes)) 0)

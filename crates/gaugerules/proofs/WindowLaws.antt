@@ -14,7 +14,8 @@ use Rattle.flashrules.proofs.Laws.{loaded-length, store-length}
 use Rattle.flashrules.proofs.Picks.{on-cond}
 use Rattle.gaugerules.specs.State.{isFullAccess, nonePending}
 use Rattle.gaugerules.specs.Register.{registerOf}
-use Rattle.gaugerules.specs.Word.{word, statusWord, sealWord, resetWord, keys, isKey, keyWanted, keyWord, obey}
+use Rattle.gaugerules.specs.Keys.{keys, isKey}
+use Rattle.gaugerules.specs.Word.{word, statusWord, sealWord, resetWord, keyWanted, keyWord, obey}
 use Rattle.gaugerules.specs.Transfer.{byteWritten, loadBlock, committed, commitError}
 use Rattle.gaugerules.specs.Write.{writeAt, writeByte, writeBytes, callError, write}
 use Rattle.gaugerules.specs.Laws.{WriteLength}

@@ -1,10 +1,11 @@
 -- A block of the data flash through the registers, as a host reads and writes one: 0 at 0x61, class
--- and block at 0x3E, bytes at 0x40 on, the checksum at 0x60. Every byte of it is accepted, in
--- unsealed and in full access alike. Document 01, "The parameter desk": "a full access gauge ..
--- that loads the block, writes them and commits". proofs/Laws.antt has a proof of each claim, under
--- its name in small letters.
+-- and block at 0x3E, bytes at 0x40 on, the checksum at 0x60. Every byte of it is accepted in full
+-- access, and unsealed where the keys stay. Document 01, "The parameter desk": "a full access gauge
+-- .. that loads the block, writes them and commits". proofs/Laws.antt has a proof of each claim,
+-- under its name in small letters.
 use Prim.Native.Nat.{ℕ, _+_, _≤_}
 use mathlib.Core.Path.{_≡_}
+use mathlib.Core.Logic.{_⊎_}
 use mathlib.Core.Bool.{true, false}
 use mathlib.Core.List.{List, [], _∷_, _++_}
 use lib.ListN.{length, take, drop}
@@ -16,8 +17,9 @@ use Rattle.flashrules.specs.Lookup.{findBlock}
 use Rattle.flashrules.specs.Image.{maxByte, Bytes, blockBytes, asLoaded}
 use Rattle.flashrules.specs.declared.layout.Layout.{Layout}
 use Rattle.flashrules.specs.declared.lookup.Lookup.{Lookup}
-use Rattle.gaugerules.specs.State.{controlFlash, isSealed, generalAccess, withControl, withClass, withWindow}
-use Rattle.gaugerules.specs.State.{unload, load}
+use Rattle.gaugerules.specs.State.{controlFlash, isSealed, isFullAccess, generalAccess, withControl, withClass}
+use Rattle.gaugerules.specs.State.{withWindow, unload, load}
+use Rattle.gaugerules.specs.Keys.{keyBytes}
 use Rattle.gaugerules.specs.Register.{dataFlashClass, blockData, blockDataChecksum, blockDataControl}
 use Rattle.gaugerules.specs.Write.{written, write}
 use Rattle.gaugerules.specs.Read.{reading, read}
@@ -90,6 +92,10 @@ pub record BlockWrites (l : Layout) (image : List ℕ) (g : Gauge) (i b o : ℕ)
   pub access : generalAccess (blockEdited l image g i b o bs) ≡ true
   pub good : Good l to (blockEdited l image g i b o bs)
 
+-- C-14: which images a gauge may leave, in full access any, else those with the same keys
+abbrev pub MayLeave : Layout → List ℕ → Gauge → List ℕ → Type 0
+MayLeave l image g to = (isFullAccess g ≡ true) ⊎ (keyBytes l to ≡ keyBytes l image)
+
 -- any bytes that fit at any place of any block that the lookup finds: the image then has them
 -- there, and is else what it was
 abbrev pub WriteBlock : Type 0
@@ -97,4 +103,4 @@ WriteBlock =
     (l : Layout) (image : List ℕ) (g : Gauge) (i b s k : ℕ) → Good l image g → generalAccess g ≡ true → i ≤ maxByte
     → b ≤ maxByte → findBlock l (length image) i b ≡ Lookup.Found s k
     → (o : ℕ) (bs : List ℕ) → Bytes bs → 1 ≤ length bs → o + length bs ≤ k
-    → BlockWrites l image g i b o bs (sets image (s + o) bs)
+    → let to = sets image (s + o) bs in MayLeave l image g to → BlockWrites l image g i b o bs to

@@ -9,6 +9,7 @@ use mathlib.Core.List.{List, [], _∷_}
 use lib.Dec.{eqb}
 use lib.ListN.{length, getD, take, drop}
 use Rattle.checksum.specs.Checksum.{checksum}
+use Rattle.flashrules.specs.Error.{protectedKeys}
 use Rattle.flashrules.specs.Refusal.{firstError}
 use Rattle.flashrules.specs.Outcome.{Outcome, outcome}
 use Rattle.flashrules.specs.Choice.{and, differing}
@@ -21,7 +22,7 @@ use Rattle.flashrules.specs.declared.layout.Layout.{Layout}
 use Rattle.gaugerules.specs.State.{infoBlocks, generalAccess, loadedOf, noneLoaded, powerOn, load}
 use Rattle.gaugerules.specs.Valid.{valid}
 use Rattle.gaugerules.specs.Register.{dataFlashBlock, blockDataChecksum}
-use Rattle.gaugerules.specs.Transfer.{byteWritten, accept, refuse, isProtected}
+use Rattle.gaugerules.specs.Transfer.{byteWritten, accept, refuse, isProtected, changesKeys}
 use Rattle.gaugerules.specs.Write.{written, writeByte, writeBytes, callError, write}
 use Rattle.gaugerules.specs.Read.{readBytes, read}
 use Rattle.gaugerules.specs.Table.{byteTests}
@@ -88,17 +89,18 @@ ReadAccepted =
 
 -- ---- which error a byte has
 
--- 01: "Each is given when its row says so and never else.", "2 to 9 answer written bytes only": of
--- any gauge over an image of the layout
+-- 01: "Each is given when its row says so and never else.", "2 to 9 answer written bytes only", and
+-- so does 16: of any gauge over an image of the layout
 abbrev pub ByteError : Type 0
 ByteError =
     (l : Layout) (image : List ℕ) (g : Gauge) (r byte : ℕ) → fits l (length image) ≡ true
-    → writeByte l image g r byte .answer .error ≡ firstError (byteTests l g r byte)
+    → writeByte l image g r byte .answer .error ≡ firstError (byteTests l image g r byte)
 
 abbrev pub ByteErrors : Type 0
 ByteErrors =
     (l : Layout) (image : List ℕ) (g : Gauge) (r byte : ℕ) → fits l (length image) ≡ true
-    → let e = writeByte l image g r byte .answer .error in (e ≡ 0) ⊎ ((2 ≤ e) × (e ≤ 9))
+    → let e = writeByte l image g r byte .answer .error in
+    (e ≡ 0) ⊎ (((2 ≤ e) × (e ≤ 9)) ⊎ (e ≡ protectedKeys))
 
 -- 01: "Otherwise 1, 2, 3 load A, B, C": always
 abbrev pub InfoLoads : Type 0
@@ -110,9 +112,16 @@ InfoLoads =
 
 -- ---- commits
 
--- demand 2: "a block is loaded, it is not block A of a sealed gauge, and the byte matches"
-abbrev pub commits : Gauge → ℕ → Bool
-commits g byte = and (not (noneLoaded g) ∷ not (isProtected g) ∷ eqb byte (checksum (g .window)) ∷ [])
+-- demand 2: "a block is loaded, it is not block A of a sealed gauge, and the byte matches"; C-14:
+-- "The rule for commits in demand 2 reads with this condition added."
+abbrev pub commits : Layout → List ℕ → Gauge → ℕ → Bool
+commits l image g byte =
+    and
+    (not (noneLoaded g)
+    ∷ not (isProtected g)
+    ∷ eqb byte (checksum (g .window))
+    ∷ not (changesKeys l image g)
+    ∷ [])
 
 -- image′ is what a commit leaves: the loaded block, which has bytes, holds the window's first ones,
 -- and every other byte is what it was
@@ -131,8 +140,9 @@ abbrev pub CommitRule : Type 0
 CommitRule =
     (l : Layout) (image : List ℕ) (g : Gauge) (byte : ℕ) → fits l (length image) ≡ true → valid l g ≡ true
     → let s = writeByte l image g blockDataChecksum byte in
-    (commits g byte ≡ true → (s .answer ≡ byteWritten 0 (differing image (s .lent)) g) × Committed l image g (s .lent))
-    × (commits g byte ≡ false → let e = s .answer .error in (e ≡ 0 → ⊥) × (s ≡ outcome (refuse e g) image))
+    (commits l image g byte ≡ true
+    → (s .answer ≡ byteWritten 0 (differing image (s .lent)) g) × Committed l image g (s .lent))
+    × (commits l image g byte ≡ false → let e = s .answer .error in (e ≡ 0 → ⊥) × (s ≡ outcome (refuse e g) image))
 
 -- a byte at any other register
 abbrev pub OnlyCommit : Type 0
@@ -152,7 +162,8 @@ WriteCommits =
     → let w = write l image g r bytes in
     let before = blockDataChecksum - r in
     let met = writeBytes l image g r 0 0 (take before bytes) .answer .gauge in
-    (Reached r (w .answer .accepted) → (commits met (getD bytes before 0) ≡ true) × Committed l image met (w .lent))
+    (Reached r (w .answer .accepted)
+    → (commits l image met (getD bytes before 0) ≡ true) × Committed l image met (w .lent))
     × ((Reached r (w .answer .accepted) → ⊥) → w .lent ≡ image)
 
 -- ---- C-12: how many bytes a write changed

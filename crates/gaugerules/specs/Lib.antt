@@ -1,6 +1,7 @@
 pub mod State
 pub mod Valid
 pub mod Register
+pub mod Keys
 pub mod Word
 pub mod Transfer
 pub mod Write
@@ -9,4 +10,5 @@ pub mod Script
 pub mod Table
 pub mod Laws
 pub mod BlockAccess
+pub mod KeyProtection
 pub mod Noninterference

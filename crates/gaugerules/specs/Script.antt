@@ -2,7 +2,7 @@
 -- Document 01, "Two gauges, one script".
 use Prim.Native.Nat.{ℕ, _+_}
 use mathlib.Core.Bool.{Bool, false, cond, not}
-use mathlib.Core.List.{List, [], _∷_}
+use mathlib.Core.List.{List, [], _∷_, _++_}
 use lib.Dec.{eqb}
 use lib.ListN.{take}
 use Rattle.flashrules.specs.Outcome.{Outcome}
@@ -10,7 +10,8 @@ use Rattle.flashrules.specs.Choice.{and}
 use Rattle.flashrules.specs.declared.layout.Layout.{Layout}
 use Rattle.gaugerules.specs.State.{isSealed}
 use Rattle.gaugerules.specs.Register.{controlLow, controlHigh}
-use Rattle.gaugerules.specs.Word.{word, statusWord, sealWord, resetWord, unsealKey, keys, isKey}
+use Rattle.gaugerules.specs.Keys.{unsealKey, keys, isKey}
+use Rattle.gaugerules.specs.Word.{word, statusWord, sealWord, resetWord}
 use Rattle.gaugerules.specs.Write.{write}
 use Rattle.gaugerules.specs.Read.{read}
 use Rattle.gaugerules.specs.declared.state.Gauge.{Gauge}
@@ -72,6 +73,11 @@ unfoldable pub obeyed : Layout → Device → Call → List ℕ
 obeyed l d (toWrite r bytes) =
     made (d .gauge .low) r (take (write l (d .image) (d .gauge) r bytes .answer .accepted) bytes)
 obeyed l d (toRead r n buffer) = []
+
+-- the words that a script makes, in its order
+abbrev pub words : Layout → Device → List Call → List ℕ
+words l d [] = []
+words l d (c ∷ cs) = obeyed l d c ++ words l (afterCall l d c) cs
 
 -- "neither it nor the last one before it is 0x0000, 0x0020 or 0x0041"
 abbrev pub mayBeKey : ℕ → Bool

@@ -3,9 +3,10 @@
 -- `inRange` of specs/Valid.antt.
 use Prim.Native.Nat.{ℕ, _+_, _*_, _/_, _%_}
 use mathlib.Core.Bool.{Bool, true, false, cond}
-use mathlib.Core.List.{List}
+use mathlib.Core.List.{List, [], _∷_}
 use lib.Dec.{eqb}
 use lib.ListN.{replicate}
+use Rattle.flashrules.specs.Choice.{and}
 use Rattle.flashrules.specs.Lookup.{blockSize}
 use Rattle.gaugerules.specs.declared.state.Gauge.{Gauge}
 use Rattle.gaugerules.specs.declared.state.Loaded.{Loaded}
@@ -65,6 +66,9 @@ zeroWindow = replicate blockSize 0
 abbrev pub isSealed : Gauge → Bool
 isSealed g = eqb (g .mode) sealed
 
+abbrev pub isUnsealed : Gauge → Bool
+isUnsealed g = eqb (g .mode) unsealed
+
 abbrev pub isFullAccess : Gauge → Bool
 isFullAccess g = eqb (g .mode) fullAccess
 
@@ -93,6 +97,11 @@ module _ {A : Type 0} where
 
 abbrev pub noneLoaded : Gauge → Bool
 noneLoaded g = ifLoaded (loadedOf (g .loaded)) true (λ i b. false)
+
+-- this block of this class is
+abbrev pub isLoaded : Gauge → ℕ → ℕ → Bool
+isLoaded g class block =
+    ifLoaded (loadedOf (g .loaded)) false (λ i b. and (eqb i class ∷ eqb b block ∷ []))
 
 -- ---- changes of one field
 

@@ -1,23 +1,24 @@
 -- Block transfer: what a byte at 0x3E, 0x3F, 0x40 to 0x5F, 0x60 and 0x61 does. Document 01,
 -- "Transactions", the table of bytes written; the refusals of a byte in the order 3, 9, 4, 5, 6, 7,
--- 8.
+-- 8, and then document 02's.
 use Prim.Native.Nat.{ℕ, _-_}
-use mathlib.Core.Bool.{Bool, false, cond, not}
+use mathlib.Core.Bool.{Bool, cond, not}
 use mathlib.Core.List.{List, [], _∷_, _++_}
 use lib.Dec.{eqb, leb}
-use lib.ListN.{length, set}
+use lib.ListN.{length, take, set}
 use Rattle.checksum.specs.Checksum.{checksum}
 use Rattle.flashrules.specs.Error.{sealedRegister, unknownBlock, nothingLoaded, protectedBlock, wrongChecksum}
-use Rattle.flashrules.specs.Error.{invalidControl}
+use Rattle.flashrules.specs.Error.{invalidControl, protectedKeys}
 use Rattle.flashrules.specs.Refusal.{firstError}
-use Rattle.flashrules.specs.Choice.{and}
+use Rattle.flashrules.specs.Choice.{and, differing}
 use Rattle.flashrules.specs.Answer.{ifFound}
-use Rattle.flashrules.specs.Layout.{infoClass}
+use Rattle.flashrules.specs.Layout.{infoClass, keyClass}
 use Rattle.flashrules.specs.Lookup.{findBlock}
 use Rattle.flashrules.specs.Image.{blockBytes, storeBlock, asLoaded}
 use Rattle.flashrules.specs.declared.layout.Layout.{Layout}
-use Rattle.gaugerules.specs.State.{controlInfo, infoBlocks, blockA, isSealed, generalAccess, loadedOf, ifLoaded}
-use Rattle.gaugerules.specs.State.{noneLoaded, withControl, withClass, withWindow, unload, load}
+use Rattle.gaugerules.specs.State.{controlInfo, infoBlocks, blockA, isSealed, isUnsealed, generalAccess, loadedOf}
+use Rattle.gaugerules.specs.State.{ifLoaded, noneLoaded, isLoaded, withControl, withClass, withWindow, unload, load}
+use Rattle.gaugerules.specs.Keys.{keyBlock, keysEnd, keyBytes}
 use Rattle.gaugerules.specs.declared.state.Gauge.{Gauge}
 use Rattle.gaugerules.specs.declared.answer.ByteWritten.{ByteWritten}
 
@@ -62,8 +63,7 @@ selectBlock l image g byte =
 
 -- 7: "block A, sealed"
 unfoldable pub isProtected : Gauge → Bool
-isProtected g =
-    and (isSealed g ∷ ifLoaded (loadedOf (g .loaded)) false (λ i b. and (eqb i infoClass ∷ eqb b blockA ∷ [])) ∷ [])
+isProtected g = and (isSealed g ∷ isLoaded g infoClass blockA ∷ [])
 
 -- 6, then 7
 abbrev pub editTests : Gauge → List (Bool × ℕ)
@@ -76,9 +76,23 @@ editError g = firstError (editTests g)
 unfoldable pub edit : Gauge → ℕ → ℕ → ByteWritten
 edit g k byte = cond (eqb (editError g) 0) (accept (withWindow g (set (g .window) k byte))) (refuse (editError g) g)
 
--- 6, 7, then 8: "checksum differs"
+-- 16: 02, C-14, "An unsealed commit to block 0 of class 112 that would change any of bytes 0 to 7"
+unfoldable pub changesKeys : Layout → List ℕ → Gauge → Bool
+changesKeys l image g =
+    and
+    (isUnsealed g
+    ∷ isLoaded g keyClass keyBlock
+    ∷ not (eqb (differing (keyBytes l image) (take keysEnd (g .window))) 0)
+    ∷ [])
+
+-- 8: "checksum differs"; then 16
+abbrev pub storeTests : Layout → List ℕ → Gauge → ℕ → List (Bool × ℕ)
+storeTests l image g byte =
+    (not (eqb byte (checksum (g .window))), wrongChecksum) ∷ (changesKeys l image g, protectedKeys) ∷ []
+
+-- 6 and 7, then these
 abbrev pub commitTests : Layout → List ℕ → Gauge → ℕ → List (Bool × ℕ)
-commitTests l image g byte = editTests g ++ ((not (eqb byte (checksum (g .window))), wrongChecksum) ∷ [])
+commitTests l image g byte = editTests g ++ storeTests l image g byte
 
 unfoldable pub commitError : Layout → List ℕ → Gauge → ℕ → ℕ
 commitError l image g byte = firstError (commitTests l image g byte)

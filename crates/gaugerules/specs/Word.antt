@@ -1,15 +1,12 @@
 -- Control words: what a byte at 0x01 does. Document 01, "Transactions", "Words."
-use Prim.Native.Nat.{ℕ, _+_, _*_, _/_, _%_}
-use mathlib.Core.Bool.{Bool, cond}
-use mathlib.Core.List.{List, [], _∷_}
+use Prim.Native.Nat.{ℕ, _+_, _*_}
+use mathlib.Core.Bool.{cond}
+use mathlib.Core.List.{List}
 use lib.Dec.{eqb}
-use lib.ListN.{take, drop}
-use Rattle.flashrules.specs.Choice.{differing}
-use Rattle.flashrules.specs.Layout.{keyClass}
-use Rattle.flashrules.specs.Image.{blockBytes}
 use Rattle.flashrules.specs.declared.layout.Layout.{Layout}
-use Rattle.gaugerules.specs.State.{unsealed, fullAccess, bootSealed, noWord, isSealed, isFullAccess}
+use Rattle.gaugerules.specs.State.{unsealed, fullAccess, bootSealed, noWord, isSealed, isUnsealed, isFullAccess}
 use Rattle.gaugerules.specs.State.{nonePending, withMode, withPending, withResult, restart}
+use Rattle.gaugerules.specs.Keys.{unsealKey, fullAccessKey, keys, isKey}
 use Rattle.gaugerules.specs.declared.state.Gauge.{Gauge}
 
 -- 01: "word = 256 x this + low byte"
@@ -38,35 +35,9 @@ abbrev pub statusFullAccess : ℕ
 statusFullAccess = 0x0000
 
 abbrev pub status : Gauge → ℕ
-status g = cond (isSealed g) statusSealed (cond (eqb (g .mode) unsealed) statusUnsealed statusFullAccess)
+status g = cond (isSealed g) statusSealed (cond (isUnsealed g) statusUnsealed statusFullAccess)
 
--- ---- keys
-
--- 01: "Class 112: bytes 0 to 3 unseal key, 4 to 7 full access key."
-abbrev pub unsealKey : ℕ
-unsealKey = 0
-
-abbrev pub fullAccessKey : ℕ
-fullAccessKey = 4
-
--- the bytes of the block that holds them
-abbrev pub keyBlock : ℕ
-keyBlock = 0
-
-abbrev pub keys : Layout → List ℕ → List ℕ
-keys l image = blockBytes l image keyClass keyBlock
-
-abbrev pub keyLength : ℕ
-keyLength = 4
-
--- 01: "the four bytes as sent, low byte first": those of two words
-abbrev pub asSent : ℕ → ℕ → List ℕ
-asSent u w = u % 256 ∷ u / 256 ∷ w % 256 ∷ w / 256 ∷ []
-
--- 01: ".. against the four bytes in flash order", which begin at `at`: equal, so that they differ
--- in no place
-unfoldable pub isKey : List ℕ → ℕ → ℕ → ℕ → Bool
-isKey bs at u w = eqb (differing (take keyLength (drop at bs)) (asSent u w)) 0
+-- ---- key words
 
 -- 01: "if sealed (or unsealed) .. the unseal key (or full access key)", "mode becomes unsealed (or
 -- full access)"

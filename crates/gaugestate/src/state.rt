@@ -11,7 +11,7 @@ use gaugerules::state::NO_BLOCK;
 use gaugerules::state::NO_WORD;
 use gaugerules::state::SEALED;
 ghost use mathlib.Core.Path.{_≡_};
-ghost use Rattle.gaugerules.specs.State.{bootMode, bootOf, powerOn, restart, generalAccess, loadedOf, packed, unload, load};
+ghost use Rattle.gaugerules.specs.State.{bootMode, bootOf, powerOn, restart, generalAccess, loadedOf, isLoaded, packed, unload, load};
 
 fn boot_mode(boot: u8) -> u8
     ensures { λ r. ⌜ r ≡ bootMode boot ⌝ }
@@ -79,6 +79,23 @@ pub fn loaded(gauge: Gauge) -> Loaded
         class: ((gauge.loaded / 256) % 256) as u8,
         block: (gauge.loaded % 256) as u8,
     }
+}
+
+// Whether this block of this class is loaded.
+pub fn is_loaded(gauge: Gauge, class: u8, block: u8) -> bool
+    ensures { λ r. ⌜ r ≡ isLoaded gauge class block ⌝ }
+{
+    let Loaded::Block {
+        class: loaded_class,
+        block: loaded_block,
+    } = loaded(gauge)
+    else {
+        return false;
+    };
+    if loaded_class == class {
+        return loaded_block == block;
+    }
+    false
 }
 
 // A block of a class as one number.

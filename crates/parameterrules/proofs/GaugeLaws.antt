@@ -2,6 +2,7 @@
 -- to load its block, to read or to write there.
 use Prim.Native.Nat.{ℕ, _+_, _/_, _%_, _≤_}
 use mathlib.Core.Path.{_≡_, refl}
+use mathlib.Core.Logic.{inl}
 use mathlib.Core.Bool.{true}
 use mathlib.Core.List.{List, _++_}
 use native.Mathlib.Omega.{arith}
@@ -73,7 +74,7 @@ module _ (l : Layout) (image : List ℕ) (p : Parameter) (r : Readable l (length
       let n = to-bytes-length w v in
       rw (← place .place)
       (write-block l image openGauge (p .class) b (place .start) (place .len) (access .good) (access .access) hc (place .byte) (place .found) o (toBytes w v)
-      (to-bytes-bytes w v) (omega (arith, n, width-some l (length image) p r)) (omega (arith, n, place .end)))
+      (to-bytes-bytes w v) (omega (arith, n, width-some l (length image) p r)) (omega (arith, n, place .end)) (inl refl))
 
 pub set-by-gauge : SetByGauge
 unfolding afterCalls afterCall outcome

@@ -1,11 +1,12 @@
 -- The text that is held in a buffer: kept, read on, and cut.
-use Prim.Native.Nat.{ℕ, zero, suc, _+_, _-_, _≤_, _<_}
+use Prim.Native.Nat.{ℕ, suc, _+_, _-_, _≤_, _<_}
 use mathlib.Core.Path.{_≡_, sym, ap, _∙_}
-use mathlib.Core.List.{List, [], _∷_, _++_}
-use native.Mathlib.Nat.{sub-zero, zero-add}
+use mathlib.Core.List.{List, _++_}
+use native.Mathlib.Nat.{sub-zero}
 use native.Mathlib.Omega.{arith}
 use lib.ListN.{length, take, drop, getD, set, length-take, length-drop}
-use lib.Seq.{take-suc, take-suc-set, drop-set-lt, drop-drop, take-nil, take-add, take-at, length-take-le, getD-drop}
+use lib.Seq.{take-suc, take-suc-set, drop-set-lt, drop-drop, take-add, take-at, length-take-le, getD-drop}
+use Rattle.flashrules.proofs.PartLaws.{drop-front}
 use Rattle.scripthost.specs.Held.{held, Longer}
 
 -- ---- moved to the front: (t, u) is the loop's invariant, after i bytes
@@ -41,11 +42,6 @@ pub front-kept : (b r : List ℕ) (n : ℕ) → n ≤ length b → take n (take 
 front-kept b r n h = take-at (take n b) r n (length-take-le n b h)
 
 -- ---- cut
-
-drop-front : (n m : ℕ) (x : List ℕ) → drop n (take (n + m) x) ≡ take m (drop n x)
-drop-front zero m x = rw zero-add
-drop-front (suc n) m [] = rw (take-nil (suc n + m), take-nil m)
-drop-front (suc n) m (a ∷ x) = let e : suc n + m ≡ suc (n + m) = omega arith in rw e (drop-front n m x)
 
 pub held-length : (b : List ℕ) (from to : ℕ) → from ≤ to → to ≤ length b → length (held b from to) ≡ to - from
 held-length b from to h k = rw (length-take, length-drop) (omega arith)

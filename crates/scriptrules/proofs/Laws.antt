@@ -9,4 +9,5 @@ pub use Rattle.scriptrules.proofs.AnswerLaws.{one-by-one}
 pub use Rattle.scriptrules.proofs.RunLaws.{run-frames}
 pub use Rattle.scriptrules.proofs.HostLaws.{host-prints}
 pub use Rattle.scriptrules.proofs.NoninterferenceLaws.{frame-noninterference, output-noninterference}
+pub use Rattle.scriptrules.proofs.KeyLaws.{frames-keep-keys}
 pub use Rattle.scriptrules.proofs.WhyLaws.{explained-each, explained-count, cause-true, caused-by-line}

@@ -9,5 +9,6 @@ pub mod RunLaws
 pub mod ScriptLaws
 pub mod SessionLaws
 pub mod NoninterferenceLaws
+pub mod KeyLaws
 pub mod WholeLines
 pub mod WhyLaws

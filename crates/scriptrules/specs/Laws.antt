@@ -4,7 +4,7 @@ use Prim.Native.Nat.{ℕ, _+_, _≤_, _<_}
 use mathlib.Core.Path.{_≡_}
 use mathlib.Core.Logic.{_↔_, _⊎_}
 use mathlib.Core.Bool.{Bool, true, false, not}
-use mathlib.Core.List.{List, [], _∷_, _++_}
+use mathlib.Core.List.{List, [], _∷_, _++_, map}
 use lib.ListN.{length, take, drop}
 use lib.Seq.{sets}
 use Rattle.flashrules.specs.Error.{malformed, shortBuffer}
@@ -14,8 +14,10 @@ use Rattle.flashrules.specs.Image.{Bytes}
 use Rattle.flashrules.specs.declared.layout.Layout.{Layout}
 use Rattle.hextext.specs.Hex.{lineFeed}
 use Rattle.imagerules.specs.File.{imageFile, parseImage}
-use Rattle.gaugerules.specs.Script.{Device, unseals}
+use Rattle.gaugerules.specs.Keys.{keys, keyBytes}
+use Rattle.gaugerules.specs.Script.{Device, unseals, words}
 use Rattle.gaugerules.specs.Noninterference.{Agree, Kept}
+use Rattle.gaugerules.specs.KeyProtection.{sendsFullAccessKey}
 use Rattle.scriptrules.specs.Frame.{Frame, frameBytes, maxFrame, lineOf, serializeScript, linesOf, frameOf}
 use Rattle.scriptrules.specs.Parser.{start, feed, endError, isFrame, script, parseScript}
 use Rattle.scriptrules.specs.Reply.{callOf, maxReply, afterFrame, replies, afterFrames}
@@ -173,3 +175,13 @@ OutputNoninterference =
     → (replay x₁ y ≡ replay x₂ y)
     × ((fs : List Frame) → parseScript y ≡ script fs
     → Agree l (afterFrames l (poweredOn bytes₁) fs .image) (afterFrames l (poweredOn bytes₂) fs .image))
+
+-- ---- C-14, of frames
+
+-- powered on sealed, as for the replay: a script that never sends the full access key of the image
+-- leaves the keys
+abbrev pub FramesKeepKeys : Type 0
+FramesKeepKeys =
+    (l : Layout) (image : List ℕ) (fs : List Frame) → let d = poweredOn image in
+    sendsFullAccessKey (keys l image) (words l d (map callOf fs)) ≡ false
+    → keyBytes l (afterFrames l d fs .image) ≡ keyBytes l image

@@ -87,6 +87,16 @@ pub fn openable(random: &mut Random) -> Flash {
     }
 }
 
+/// A valid flash whose two keys can be entered and whose key class has further blocks.
+pub fn openable_with_key_blocks(random: &mut Random) -> Flash {
+    loop {
+        let mut flash = openable(random);
+        if flash.class(KEY_CLASS).bytes.len() > BLOCK_LENGTH {
+            return flash;
+        }
+    }
+}
+
 /// The two classes that must be there, the second as short as it may be.
 fn smallest(random: &mut Random) -> Flash {
     filled(random, &[(INFO_CLASS, INFO_LENGTH), (KEY_CLASS, KEY_CLASS_MIN_LENGTH)])

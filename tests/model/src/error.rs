@@ -34,6 +34,8 @@ pub enum Error {
     Buffer = 14,
     /// "record not sound"
     Record = 15,
+    /// C-14: "Only full access may change keys."
+    Keys = 16,
     /// C-11: "18 where layouts differ"
     Layouts = 18,
 }

@@ -2,6 +2,7 @@
 
 use crate::changed::count_differing;
 use crate::error::Error;
+use crate::keys::key_bytes;
 use crate::layout::{checksum, Layout, BLOCK_LENGTH, INFO_CLASS, KEY_CLASS};
 use crate::record::{Boot, Loaded, Mode, Record, BLOCK_A};
 
@@ -185,7 +186,20 @@ impl Gauge {
         }
         let place = self.layout.block(self.image.len(), loaded.class, loaded.block)?;
         let length = place.len();
-        self.image[place].copy_from_slice(&self.record.window[..length]);
+        let mut after = self.image.clone();
+        after[place].copy_from_slice(&self.record.window[..length]);
+        self.check_keys(&after)?;
+        self.image = after;
+        Ok(())
+    }
+
+    /// C-14: "An unsealed commit to block 0 of class 112 that would change any of bytes 0 to 7 is
+    /// refused"; no other commit can change them.
+    fn check_keys(&self, after: &[u8]) -> Result<(), Error> {
+        let changes = key_bytes(&self.layout, &self.image)? != key_bytes(&self.layout, after)?;
+        if self.record.mode == Mode::Unsealed && changes {
+            return Err(Error::Keys);
+        }
         Ok(())
     }
 

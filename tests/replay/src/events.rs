@@ -1,8 +1,10 @@
 //! What is counted of a case, by running its script once more.
 
+use model::changed::count_differing;
 use model::error::Error;
 use model::gauge::Gauge;
-use model::layout::{BLOCK_LENGTH, INFO_CLASS};
+use model::keys::{key_bytes, KEYS_LENGTH};
+use model::layout::{BLOCK_LENGTH, INFO_CLASS, KEY_CLASS};
 use model::record::{Loaded, Mode};
 use model::script::{frame, Frame, MAX_FRAME};
 use model::text;
@@ -15,11 +17,14 @@ const COMMIT: usize = 0x60;
 const CONTROL: usize = 0x61;
 const BLOCK_B: Loaded = Loaded { class: INFO_CLASS, block: 1 };
 const BLOCK_C: Loaded = Loaded { class: INFO_CLASS, block: 2 };
+const KEY_BLOCK: Loaded = Loaded { class: KEY_CLASS, block: 0 };
 
 /// A line of a script as the model has answered it.
 struct Line<'a> {
     /// The mode that it met.
     mode: Mode,
+    /// The keys that it met in the image.
+    keys: Vec<u8>,
     /// The gauge that it left.
     gauge: &'a Gauge,
     error: Option<Error>,
@@ -35,7 +40,7 @@ type Event = (&'static str, fn(&Line) -> bool);
 /// The event of a whole case, before those of its lines.
 const REFUSED_FILE: &str = "output 0A";
 
-/// Refusals 1 to 9 are those of spans and bytes.
+/// Refusals 1 to 9 and 16 are those of spans and bytes.
 const OF_LINES: &[Event] = &[
     ("refusal 1", |line| line.is_refused(Error::Span)),
     ("refusal 2", |line| line.is_refused(Error::ReadOnly)),
@@ -46,6 +51,7 @@ const OF_LINES: &[Event] = &[
     ("refusal 7", |line| line.is_refused(Error::BlockA)),
     ("refusal 8", |line| line.is_refused(Error::Checksum)),
     ("refusal 9", |line| line.is_refused(Error::Control)),
+    ("refusal 16", |line| line.is_refused(Error::Keys)),
     ("gauge unsealed", |line| line.passes(Mode::Sealed, Mode::Unsealed)),
     ("full access reached", |line| line.passes(Mode::Unsealed, Mode::FullAccess)),
     ("flash changed by a commit", |line| line.changed > 0),
@@ -60,6 +66,30 @@ const OF_LINES: &[Event] = &[
     ("flash changed, then refusal 3", |line| line.changed > 0 && line.is_refused(Error::Sealed)),
     ("flash changed, then refusal 9", |line| line.changed > 0 && line.is_refused(Error::Control)),
     ("flash changed, then 0x61 accepted", |line| line.changed > 0 && line.ends_at(CONTROL)),
+    ("refusal 16, one key byte", |line| line.is_refused(Error::Keys) && line.other_keys() == 1),
+    ("refusal 16, all key bytes", |line| {
+        line.is_refused(Error::Keys) && line.other_keys() == KEYS_LENGTH
+    }),
+    ("refusal 16, only of the full access key", |line| {
+        line.is_refused(Error::Keys) && line.is_window(0..KEYS_LENGTH / 2)
+    }),
+    ("refusal 8, and else 16", |line| {
+        line.is_refused(Error::Checksum)
+            && line.has_key_block(Mode::Unsealed)
+            && line.other_keys() > 0
+    }),
+    ("unsealed, key block changed behind the keys", |line| {
+        line.has_key_block(Mode::Unsealed) && line.changed > 0
+    }),
+    ("unsealed, key block committed as it is", |line| {
+        line.has_key_block(Mode::Unsealed) && line.commits() && line.changed == 0
+    }),
+    ("unsealed, another block of class 112 changed", |line| {
+        line.mode == Mode::Unsealed && line.changed > 0 && line.is_behind_key_block()
+    }),
+    ("full access, key changed", |line| {
+        line.has_key_block(Mode::FullAccess) && line.keys != line.stored_keys()
+    }),
 ];
 
 pub static EVENTS: LazyLock<Vec<&str>> = LazyLock::new(|| {
@@ -89,18 +119,23 @@ pub fn count(files: &Files, times: &mut [usize]) -> usize {
 
 fn run<'a>(gauge: &'a mut Gauge, frame: Frame) -> Line<'a> {
     let mode = gauge.record.mode;
+    let keys = stored_keys(gauge).to_vec();
     match frame {
         Frame::Write { register, bytes } => {
             let written = gauge.write(register, bytes);
             let first = usize::from(register);
             let taken = first..first + written.accepted;
-            Line { mode, gauge, error: written.error, taken, changed: written.changed }
+            Line { mode, keys, gauge, error: written.error, taken, changed: written.changed }
         }
         Frame::Read { register, count } => {
             let error = gauge.read(register, usize::from(count), &mut [0; 255]).err();
-            Line { mode, gauge, error, taken: 0..0, changed: 0 }
+            Line { mode, keys, gauge, error, taken: 0..0, changed: 0 }
         }
     }
+}
+
+fn stored_keys(gauge: &Gauge) -> &[u8] {
+    key_bytes(&gauge.layout, &gauge.image).expect("every layout has the key class")
 }
 
 impl Line<'_> {
@@ -134,6 +169,29 @@ impl Line<'_> {
 
     fn changes_while_sealed(&self, block: Loaded) -> bool {
         self.changed > 0 && self.mode == Mode::Sealed && self.gauge.record.loaded == Some(block)
+    }
+
+    fn stored_keys(&self) -> &[u8] {
+        stored_keys(self.gauge)
+    }
+
+    /// Whether it met this mode and left the block of the keys loaded.
+    fn has_key_block(&self, mode: Mode) -> bool {
+        self.mode == mode && self.gauge.record.loaded == Some(KEY_BLOCK)
+    }
+
+    fn is_behind_key_block(&self) -> bool {
+        self.gauge.record.loaded.is_some_and(|loaded| loaded.class == KEY_CLASS && loaded.block > 0)
+    }
+
+    /// How many of the first bytes of the window it left are not those of the keys.
+    fn other_keys(&self) -> usize {
+        count_differing(self.stored_keys(), &self.gauge.record.window)
+    }
+
+    /// Whether these bytes of the window are those of the keys.
+    fn is_window(&self, keys: Range<usize>) -> bool {
+        self.stored_keys()[keys.clone()] == self.gauge.record.window[keys]
     }
 
     /// Whether the window it left is not as the loaded block is stored.

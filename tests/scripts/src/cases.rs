@@ -86,6 +86,7 @@ const GOOD: &[Row] = &[
     row(6, "open, info blocks", Good, |r, _| on_openable(r, good::open_info)),
     row(6, "seal after loading", Good, |r, _| on_openable(r, good::seal_after_loading)),
     row(6, "new keys", Good, |r, _| on_openable(r, good::rekey)),
+    row(12, "key blocks", Good, |r, _| on(r, flash::openable_with_key_blocks, good::key_blocks)),
     row(6, "spans", Good, |r, _| on_any(r, good::spans)),
     row(14, "mixed", Good, |r, _| on_any(r, good::mixed)),
     row(2, "longest image", Good, |r, _| on(r, flash::longest_text, good::general)),

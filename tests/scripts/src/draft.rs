@@ -5,7 +5,8 @@ use generator::flash::Flash;
 use generator::random::Random;
 use model::gauge::Gauge;
 use model::imagefile;
-use model::layout::{checksum, BLOCK_LENGTH, KEY_CLASS};
+use model::keys::key_bytes;
+use model::layout::{checksum, BLOCK_LENGTH};
 use model::record::{Boot, Mode};
 use model::text::push_bytes;
 
@@ -74,11 +75,14 @@ impl<'a> Draft<'a> {
     }
 
     fn key_words(&self, place: usize) -> [u16; 2] {
-        let start =
-            self.gauge.layout.class(KEY_CLASS).expect("every layout has the key class").start
-                + place;
-        let word = |at: usize| u16::from_le_bytes([self.gauge.image[at], self.gauge.image[at + 1]]);
-        [word(start), word(start + 2)]
+        let keys = self.key_bytes();
+        [place, place + 2].map(|at| u16::from_le_bytes([keys[at], keys[at + 1]]))
+    }
+
+    /// Both keys, as they are stored.
+    pub fn key_bytes(&self) -> Vec<u8> {
+        let (layout, image) = (&self.gauge.layout, &self.gauge.image);
+        key_bytes(layout, image).expect("every layout has the key class").to_vec()
     }
 
     /// A byte for 0x3E: mostly a class of the layout.

@@ -1,7 +1,8 @@
 //! Good scripts: one function a kind.
 
 use crate::draft::Draft;
-use crate::moves::{self, play, step, Moves, INFO, KEYS, REKEY, SPANS, TRANSFER, WORDS};
+use crate::moves::{self, play, step, Moves};
+use crate::moves::{INFO, KEYS, KEY_BLOCKS, REKEY, SPANS, TRANSFER, WORDS};
 use generator::flash::Flash;
 use generator::random::Random;
 use model::layout::checksum;
@@ -41,6 +42,11 @@ pub fn keys(random: &mut Random, flash: &Flash) -> Vec<u8> {
 pub fn rekey(random: &mut Random, flash: &Flash) -> Vec<u8> {
     let lines = random.between(20, 150);
     from_power_on(random, flash, &[REKEY], lines)
+}
+
+pub fn key_blocks(random: &mut Random, flash: &Flash) -> Vec<u8> {
+    let lines = random.between(20, 150);
+    from_power_on(random, flash, &[KEY_BLOCKS], lines)
 }
 
 pub fn spans(random: &mut Random, flash: &Flash) -> Vec<u8> {

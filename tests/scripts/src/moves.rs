@@ -2,7 +2,8 @@
 
 use crate::draft::Draft;
 use generator::flash::{self, COMMAND_WORDS};
-use model::layout::{checksum, BLOCK_LENGTH, INFO_CLASS, KEY_CLASS};
+use model::keys::KEYS_LENGTH;
+use model::layout::{checksum, BLOCK_LENGTH, INFO_CLASS, KEY_CLASS, KEY_CLASS_MIN_LENGTH};
 use model::record::Mode;
 
 pub type Move = fn(&mut Draft);
@@ -66,6 +67,8 @@ pub const SPANS: &Moves = &[
 ];
 /// New keys, tried at once.
 pub const REKEY: &Moves = &[(4, rekey), (1, near_key), (1, seal), (1, full_access)];
+/// The block of the keys and those behind it.
+pub const KEY_BLOCKS: &Moves = &[(8, key_block), (1, rekey), (1, seal), (1, look)];
 
 /// One move of one of these tables.
 pub fn step(draft: &mut Draft, tables: &[&Moves]) {
@@ -325,10 +328,13 @@ fn change_loaded(draft: &mut Draft) {
     }
 }
 
-/// New keys committed, then the gauge sealed and opened again with the old key, the new one or
-/// both.
+/// New keys committed, mostly in full access; then the gauge sealed and opened again with the old
+/// key, the new one or both.
 fn rekey(draft: &mut Draft) {
     draft.open_with_control(0);
+    if draft.random.chance(70) {
+        full_access(draft);
+    }
     let old = draft.unseal_words();
     let keys = flash::keys(draft.random);
     let (start, end) = draft.random.pick(&[(0, 8), (0, 4), (4, 8), (0, 2), (2, 4)]);
@@ -347,6 +353,57 @@ fn rekey(draft: &mut Draft) {
         if draft.mode() == Mode::Sealed { draft.unseal_words() } else { draft.full_access_words() };
     draft.words(&new);
     status(draft);
+}
+
+/// The block of the keys, or the one behind it, changed in chosen places and committed; sometimes
+/// once more with the keys as they are stored.
+fn key_block(draft: &mut Draft) {
+    if draft.mode() == Mode::FullAccess && draft.random.chance(60) {
+        draft.word(0x0020);
+    }
+    draft.open_with_control(0);
+    if draft.random.chance(25) {
+        full_access(draft);
+    }
+    let block = draft.random.pick(&[0, 0, 1]);
+    draft.write(0x3E, &[KEY_CLASS, block]);
+    let mut window = draft.gauge.record.window;
+    let places = key_block_places(draft);
+    for &place in &places {
+        window[place] ^= 1 << draft.random.below(8);
+    }
+    let sum = draft.any_checksum(&window);
+    if draft.random.chance(50) {
+        draft.write(0x40, &[&window[..], &[sum]].concat());
+    } else {
+        for place in places {
+            draft.write(0x40 + place as u8, &[window[place]]);
+        }
+        draft.write(0x60, &[sum]);
+    }
+    if draft.random.chance(40) {
+        let stored = draft.key_bytes();
+        draft.write(0x40, &stored);
+        commit(draft);
+    }
+}
+
+/// Places in a window: of the keys, behind them, in both or in none.
+fn key_block_places(draft: &mut Draft) -> Vec<usize> {
+    let keys = 0..KEYS_LENGTH;
+    let one = draft.random.below(KEYS_LENGTH);
+    let behind = draft.random.between(KEYS_LENGTH, KEY_CLASS_MIN_LENGTH - 1);
+    match draft.random.below(9) {
+        0 => Vec::new(),
+        1 => vec![one],
+        2 => vec![keys.start],
+        3 => vec![keys.end - 1],
+        4 => vec![keys.end],
+        5 => keys.collect(),
+        6 => vec![behind],
+        7 => vec![one, behind],
+        _ => (one..=behind).collect(),
+    }
 }
 
 // Registers, spans, counts

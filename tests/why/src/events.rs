@@ -51,13 +51,15 @@ const OF_ANY: &[(&str, IsMet)] = &[
     ("cause above line 255", |write| write.cause() > 255),
 ];
 
-use Error::{BlockA, Checksum, Control, NoBlock, NoClass, NotLoaded, ReadOnly, Sealed, Span};
+use Error::{BlockA, Checksum, Control, Keys, NoBlock, NoClass, NotLoaded, ReadOnly, Sealed, Span};
 
 /// An event of one refusal.
 const OF_ONE: &[(&str, Error, IsMet)] = &[
     ("1, the line itself", Span, |_| true),
     ("2, the line itself", ReadOnly, |_| true),
     ("9, the line itself", Control, |_| true),
+    ("16, window written before", Keys, |write| !write.has_own_window()),
+    ("16, window written by the line itself", Keys, |write| write.has_own_window()),
     ("3, sealed since power-on", Sealed, |write| write.cause() == 0),
     ("3, sealed by 0x0020", Sealed, |write| write.is_by(is_seal)),
     ("3, sealed by 0x0041", Sealed, |write| write.is_by(is_reset)),
@@ -244,6 +246,11 @@ impl Refused<'_> {
     /// The bytes of the cause that wrote or loaded the window.
     fn window_entries(&self) -> impl Iterator<Item = &Entry> {
         self.of_cause().iter().filter(|entry| (BLOCK..COMMIT).contains(&entry.register))
+    }
+
+    /// Whether the refused line itself wrote or loaded the window, if it is the cause.
+    fn has_own_window(&self) -> bool {
+        self.is_own() && self.window_entries().next().is_some()
     }
 
     fn is_by_load(&self) -> bool {

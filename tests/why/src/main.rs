@@ -21,7 +21,7 @@ fn main() -> ExitCode {
     let comparison = Comparison {
         name: "compare-why",
         kinds: &KINDS,
-        cases: 3_500,
+        cases: 4_400,
         events: &events::EVENTS,
         floor: 200,
         lines: "refused writes explained",

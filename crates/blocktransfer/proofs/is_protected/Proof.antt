@@ -12,9 +12,5 @@ is-protected-spec =
     tie.close
     (tie.spec
     (λ c κs. search needs)
-    (λ c. search needs)
-    (λ c. search needs)
-    (λ c. search (picks, calls, byteRules) depth 12)
-    (λ c. search (picks, calls, byteRules) depth 12)
     (λ c. search (picks, calls, byteRules) depth 12)
     (λ c. search (picks, calls, byteRules) depth 12))

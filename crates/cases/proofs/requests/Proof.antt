@@ -1,4 +1,4 @@
--- `cases::requests` meets its contract. The session is that of the table: computed.
+-- `cases::requests` meets its contract. Each session is that of the table: computed.
 use borrow.Author.Needs.{needs}
 use mathlib.Core.Path.{refl}
 use Rattle.hextext.specs.Hex.{digit}
@@ -10,6 +10,14 @@ unfolding digit
 requests-spec =
     tie.close
     (tie.spec
+    (λ c. search needs)
+    (λ c. search needs)
+    (λ c. search needs)
+    (λ c κs. (refl, search needs))
+    (λ c. search needs)
+    (λ c. search needs)
+    (λ c. search needs)
+    (λ c κs. (refl, search needs))
     (λ c. search needs)
     (λ c. search needs)
     (λ c. search needs)

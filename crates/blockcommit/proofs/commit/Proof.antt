@@ -1,8 +1,8 @@
--- `blocktransfer::commit` meets its contract. By the error, and by what is loaded.
+-- `blockcommit::commit` meets its contract. By the error, and by what is loaded.
 use borrow.Author.Needs.{needs}
-use Rattle.blocktransfer.proofs.TransferLaws.{commits, commits-none, commits-not}
-use Rattle.blocktransfer.proofs.commit.Statement.{statement}
-use Rattle.blocktransfer.proofs.commit.Tie as tie
+use Rattle.blockcommit.proofs.CommitLaws.{commits, commits-none, commits-not}
+use Rattle.blockcommit.proofs.commit.Statement.{statement}
+use Rattle.blockcommit.proofs.commit.Tie as tie
 
 pub commit-spec : {M : Type 1} → statement M
 commit-spec =
@@ -20,5 +20,6 @@ commit-spec =
     (λ c. search commits-none)
     (λ c κs. search needs)
     (λ c κs. search needs)
+    (λ c. search needs)
     (λ c. search needs)
     (λ c. search commits))

@@ -1,21 +1,21 @@
 -- Laws of control words: records put together with what calls gave, and the key in the image.
 use Prim.Native.Nat.{ℕ, suc, _+_, _-_, _/_, _%_, _≤_, _<_, min}
-use mathlib.Core.Path.{_≡_, sym, ap, _∙_}
-use mathlib.Core.Bool.{Bool, true, false}
+use mathlib.Core.Path.{_≡_, sym, ap}
+use mathlib.Core.Bool.{Bool, true, false, not, cond}
 use mathlib.Core.List.{List, [], _∷_}
 use native.Mathlib.Numerals.{add-one}
 use native.Mathlib.Omega.{arith}
 use lib.Dec.{eqb}
 use lib.ListN.{length, getD, take, drop, length-take, length-drop}
 use lib.Seq.{drop-cons}
+use mir.Val.{boolByte}
 use borrow.Author.Tests.{ne-eqb}
-use Rattle.flashrules.specs.Choice.{and}
+use Rattle.flashrules.specs.Choice.{differing}
 use Rattle.flashrules.specs.Layout.{keyClass}
 use Rattle.flashrules.specs.Image.{blockBytes}
 use Rattle.flashrules.specs.declared.layout.Layout.{Layout}
 use Rattle.flashrules.proofs.Laws.{differing-none}
-use Rattle.flashrules.proofs.DifferingLaws.{same-differing}
-use Rattle.flashrules.proofs.Picks.{on-test}
+use Rattle.dataflash.proofs.CountLaws.{differ-is}
 use Rattle.gaugerules.specs.State.{fullAccess, noWord, withMode, withPending, withResult}
 use Rattle.gaugerules.specs.Keys.{keyLength, asSent, keys, isKey}
 use Rattle.gaugerules.specs.Word.{word, status, keyWanted, modeOpened, waits, opened, keyWord, withStatus, obey}
@@ -27,7 +27,11 @@ opens-by g r m q p = rw (q, p)
 pub status-by : (g : Gauge) (n : ℕ) → n ≡ status g → withResult (withPending g noWord) n ≡ withStatus g
 status-by g n p = rw p
 
--- ---- the key's four bytes, one by one
+-- ---- the key's four bytes: one, then all
+
+-- where `x` is the byte, widened
+pub differs-is : (x y sent : ℕ) → x ≡ y → boolByte (not (eqb x sent)) ≡ cond (eqb y sent) 0 1
+differs-is x y sent e = rw e (differ-is (eqb y sent))
 
 four : (bs : List ℕ) (at : ℕ) → at + keyLength ≤ length bs
     → take keyLength (drop at bs) ≡ getD bs at 0 ∷ getD bs (at + 1) 0 ∷ getD bs (at + 2) 0 ∷ getD bs (at + 3) 0 ∷ []
@@ -54,18 +58,17 @@ module _ (bs : List ℕ) (at u w : ℕ) where
       let n : length (take keyLength (drop at bs)) ≡ min keyLength (length bs - at) = simp (length-take, length-drop) in
       omega arith))
 
-  -- whether four bytes are the key, byte by byte
-  pub key-is : at + keyLength ≤ length bs → (t : Bool)
-      → t ≡ and (eqb (getD bs at 0) (u % 256) ∷ eqb (getD bs (at + 1) 0) (u / 256) ∷ eqb (getD bs (at + 2) 0) (w % 256) ∷ eqb (getD bs (at + 3) 0) (w / 256) ∷ [])
-      → t ≡ isKey bs at u w
+  -- the four together
+  pub sum-is :
+      (a b c d : ℕ) → at + keyLength ≤ length bs → a ≡ cond (eqb (getD bs at 0) (u % 256)) 0 1 → b ≡ cond (eqb (getD bs (at + 1) 0) (u / 256)) 0 1
+      → c ≡ cond (eqb (getD bs (at + 2) 0) (w % 256)) 0 1 → d ≡ cond (eqb (getD bs (at + 3) 0) (w / 256)) 0 1
+      → a + b + c + d ≡ differing (take keyLength (drop at bs)) (asSent u w)
+  sum-is a b c d h e₀ e₁ e₂ e₃ = rw (four bs at h, ← e₀, ← e₁, ← e₂, ← e₃) (omega arith)
+
+  -- the key is equal exactly at 0
+  pub key-at-zero : (n : ℕ) → n ≡ differing (take keyLength (drop at bs)) (asSent u w) → eqb n 0 ≡ isKey bs at u w
   unfolding isKey
-  key-is h t e =
-      e ∙ rw (← same-differing (take keyLength (drop at bs)) (asSent u w), four bs at h)
-      (on-test (eqb (getD bs at 0) (u % 256)) (λ p0.
-      on-test (eqb (getD bs (at + 1) 0) (u / 256)) (λ p1.
-      on-test (eqb (getD bs (at + 2) 0) (w % 256)) (λ p2.
-      on-test (eqb (getD bs (at + 3) 0) (w / 256)) (λ p3. rw (p0, p1, p2, p3)) (λ p3. rw (p0, p1, p2, p3)))
-      (λ p2. rw (p0, p1, p2))) (λ p1. rw (p0, p1))) (λ p0. rw p0))
+  key-at-zero n e = rw e
 
 -- the key in the image: `bs` is the block that a call handed out, `at` where the key begins
 module _ (l : Layout) (image bs : List ℕ) (g : Gauge) (at : ℕ) (p : bs ≡ blockBytes l image keyClass 0) (q : at ≡ keyWanted g) where

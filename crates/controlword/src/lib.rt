@@ -15,9 +15,12 @@ use gaugerules::state::SEALED;
 use gaugerules::state::UNSEALED;
 use gaugestate::state::restart;
 ghost use mathlib.Core.Path.{_≡_};
-ghost use Prim.Native.Nat.{_≤_, _<_};
-ghost use lib.ListN.{length, getD};
-ghost use Rattle.gaugerules.specs.Keys.{fullAccessKey, isKey};
+ghost use mathlib.Core.Bool.{cond};
+ghost use Prim.Native.Nat.{_+_, _≤_, _<_};
+ghost use lib.Dec.{eqb};
+ghost use lib.ListN.{length, take, drop, getD};
+ghost use Rattle.flashrules.specs.Choice.{differing};
+ghost use Rattle.gaugerules.specs.Keys.{fullAccessKey, keyLength, asSent, isKey};
 ghost use Rattle.gaugerules.specs.Word.{word, status, keyWanted, modeOpened, waits, opened, keyWord, withStatus, obey};
 
 // The words that are never key words.
@@ -48,20 +51,33 @@ fn status(gauge: Gauge) -> u16
 
 // A number of 8 bits among wider ones.
 fn wide(x: u8) -> u32
-    ensures { λ r. ⌜ (r ≡ x) × (r < 256) ⌝ }
+    ensures { λ r. ⌜ r ≡ x ⌝ }
 {
     x as u32
 }
 
-// A byte of the keys.
-fn key_byte(keys: &[u8], at: usize) -> u32
+// 1 where the byte at `at` is not the one sent, 0 where it is.
+fn differs(keys: &[u8], at: usize, sent: u32) -> usize
     requires { ⌜ at < length (now keys) ⌝ }
-    ensures { λ r. ⌜ r ≡ getD (now (keys .entry)) at 0 ⌝ }
+    ensures { λ r. ⌜ (r ≡ cond (eqb (getD (now (keys .entry)) at 0) sent) 0 1) × (r ≤ 1) ⌝ }
 {
-    wide(keys[at])
+    (wide(keys[at]) != sent) as usize
 }
 
-// Whether two words as sent, low byte first, are the four bytes of a key that begins at `at`.
+// In how many of its four places a key that begins at `at` differs from two words as sent, low byte
+// first. All four are looked at, whatever they hold: there is no branch here.
+fn key_differing(keys: &[u8], at: usize, first: u32, second: u32) -> usize
+    requires { ⌜ at + keyLength ≤ length (now keys) ⌝ }
+    ensures { λ r. ⌜ r ≡ differing (take keyLength (drop at (now (keys .entry)))) (asSent first second) ⌝ }
+{
+    let a = differs(keys, at, first % 256);
+    let b = differs(keys, at + 1, first / 256);
+    let c = differs(keys, at + 2, second % 256);
+    let d = differs(keys, at + 3, second / 256);
+    a + b + c + d
+}
+
+// Whether two words as sent are the key that begins at `at`. Fewer bytes than four are no key.
 fn is_key(keys: &[u8], at: usize, first: u32, second: u32) -> bool
     requires { ⌜ at ≤ fullAccessKey ⌝ }
     ensures { λ r. ⌜ r ≡ isKey (now (keys .entry)) at first second ⌝ }
@@ -69,14 +85,7 @@ fn is_key(keys: &[u8], at: usize, first: u32, second: u32) -> bool
     if keys.len() < at + KEY_LENGTH {
         return false;
     }
-    if key_byte(keys, at) == first % 256 {
-        if key_byte(keys, at + 1) == first / 256 {
-            if key_byte(keys, at + 2) == second % 256 {
-                return key_byte(keys, at + 3) == second / 256;
-            }
-        }
-    }
-    false
+    key_differing(keys, at, first, second) == 0
 }
 
 fn key_wanted(gauge: Gauge) -> usize

@@ -1,16 +1,15 @@
 -- Laws of the number of places in which two lists differ.
 use Prim.Native.Nat.{ℕ, _+_, _≤_}
 use mathlib.Core.Path.{_≡_, refl, sym, _∙_}
-use mathlib.Core.Bool.{true≢false}
 use mathlib.Core.List.{List, [], _∷_, _++_}
 use native.Mathlib.Omega.{arith}
 use lib.Dec.{eqb}
 use lib.ListN.{length, take, drop, length-append}
 use lib.Seq.{paste, length-take-le}
 use borrow.Author.Tests.{eqb-true, eqb-false, eq-eqb, ne-eqb}
-use Rattle.flashrules.specs.Choice.{same, differing}
+use Rattle.flashrules.specs.Choice.{differing}
 use Rattle.flashrules.specs.Laws.{DifferingNone, DifferingSymmetric, DifferingMost, DifferingAppend}
-use Rattle.flashrules.proofs.Picks.{same-refl, same-eq, on-test}
+use Rattle.flashrules.proofs.Picks.{on-test}
 
 none-equal : (xs ys : List ℕ) → differing xs ys ≡ 0 → xs ≡ ys
 none-equal [] [] e = refl
@@ -27,13 +26,6 @@ differing-self (x ∷ xs) = rw (eq-eqb x x refl, differing-self xs)
 
 pub differing-none : DifferingNone
 differing-none xs ys = (none-equal xs ys, λ p. rw p (differing-self ys))
-
--- by the test
-pub same-differing : (xs ys : List ℕ) → same xs ys ≡ eqb (differing xs ys) 0
-same-differing xs ys =
-    on-test (same xs ys)
-    (λ p. rw (p, same-eq xs ys p, differing-self ys))
-    (λ p. rw (p, ne-eqb (differing xs ys) 0 (λ e. true≢false (sym (same-refl ys) ∙ rw (none-equal xs ys e) at p))))
 
 pub differing-symmetric : DifferingSymmetric
 differing-symmetric [] [] = refl

@@ -1,24 +1,32 @@
--- A call unseals a sealed gauge exactly by the unseal key: the pending word is always the last word
--- obeyed, or none where that is no key word.
+-- A key is equal exactly where no byte differs. And a call unseals a sealed gauge exactly by the
+-- unseal key: the pending word is always the last word obeyed, or none where that is no key word.
 use Prim.Native.Nat.{ℕ, _≤_}
 use mathlib.Core.Path.{_≡_, refl, sym, _∙_}
 use mathlib.Core.Bool.{Bool, true, false, cond, not, true≢false}
 use mathlib.Core.List.{List, [], _∷_, _++_}
 use native.Mathlib.Omega.{arith}
 use lib.Dec.{eqb}
-use lib.ListN.{getD}
-use borrow.Author.Tests.{ne-eqb}
+use lib.ListN.{getD, take, drop}
+use borrow.Author.Tests.{eqb-true, eq-eqb, ne-eqb}
 use Rattle.flashrules.specs.Image.{maxByte}
 use Rattle.flashrules.specs.declared.layout.Layout.{Layout}
+use Rattle.flashrules.proofs.Laws.{differing-none}
 use Rattle.flashrules.proofs.Picks.{pick-last, on-test, on-cond}
 use Rattle.gaugerules.specs.State.{sealed, bootSealed, noWord, isSealed, withLow, powerOn, restart}
 use Rattle.gaugerules.specs.Valid.{maxWord}
-use Rattle.gaugerules.specs.Keys.{unsealKey, keys, isKey}
+use Rattle.gaugerules.specs.Keys.{unsealKey, keyLength, keys, asSent, isKey}
 use Rattle.gaugerules.specs.Word.{word, statusWord, sealWord, resetWord, waits, opened, keyWord, withStatus, obey}
 use Rattle.gaugerules.specs.Script.{Device, device, Call, toWrite, toRead, afterCall, unseals, obeyed, mayBeKey, entersKey}
+use Rattle.gaugerules.specs.Laws.{KeyEqual}
 use Rattle.gaugerules.specs.Noninterference.{CallBytes, ByKeyAlone, UnsealsByKey}
 use Rattle.gaugerules.specs.declared.state.Gauge.{Gauge}
 use Rattle.gaugerules.proofs.LockLaws.{Lock, lock, writes}
+
+pub key-equal : KeyEqual
+unfolding isKey
+key-equal bs at u w =
+    let same = differing-none (take keyLength (drop at bs)) (asSent u w) in
+    (λ t. same .0 (eqb-true _ 0 t), λ p. eq-eqb _ 0 (same .1 p))
 
 -- ---- entering the key, by the word that is pending
 

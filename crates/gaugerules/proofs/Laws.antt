@@ -9,7 +9,7 @@ pub use Rattle.gaugerules.proofs.WholeWrite.{write-commits, write-by-by
 pub use Rattle.gaugerules.proofs.ChangedLaws.{write-changed, changed-none, changed-most}
 pub use Rattle.gaugerules.proofs.ReadLaws.{read-refused, read-accepted}
 pub use Rattle.gaugerules.proofs.SameLayouts.{same-valid, same-write, same-read}
-pub use Rattle.gaugerules.proofs.KeyLaws.{unseals-by-key}
+pub use Rattle.gaugerules.proofs.KeyLaws.{key-equal, unseals-by-key}
 pub use Rattle.gaugerules.proofs.KeyProtectionLaws.{key-change, keys-kept}
 pub use Rattle.gaugerules.proofs.WithoutKeyLaws.{keys-kept-without-key}
 pub use Rattle.gaugerules.proofs.Noninterference.{sealed-noninterference, noninterference}

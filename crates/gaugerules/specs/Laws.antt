@@ -3,7 +3,7 @@
 -- letters.
 use Prim.Native.Nat.{ℕ, _+_, _-_, _≤_, _<_}
 use mathlib.Core.Path.{_≡_}
-use mathlib.Core.Logic.{_⊎_}
+use mathlib.Core.Logic.{_⊎_, _↔_}
 use mathlib.Core.Bool.{Bool, true, false, cond, not}
 use mathlib.Core.List.{List, [], _∷_}
 use lib.Dec.{eqb}
@@ -22,6 +22,7 @@ use Rattle.flashrules.specs.declared.layout.Layout.{Layout}
 use Rattle.gaugerules.specs.State.{infoBlocks, generalAccess, loadedOf, noneLoaded, powerOn, load}
 use Rattle.gaugerules.specs.Valid.{valid}
 use Rattle.gaugerules.specs.Register.{dataFlashBlock, blockDataChecksum}
+use Rattle.gaugerules.specs.Keys.{keyLength, asSent, isKey}
 use Rattle.gaugerules.specs.Transfer.{byteWritten, accept, refuse, isProtected, changesKeys}
 use Rattle.gaugerules.specs.Write.{written, writeByte, writeBytes, callError, write}
 use Rattle.gaugerules.specs.Read.{readBytes, read}
@@ -191,6 +192,13 @@ abbrev pub ChangedMost : Type 0
 ChangedMost =
     (l : Layout) (image : List ℕ) (g : Gauge) (r : ℕ) (bytes : List ℕ)
     → write l image g r bytes .answer .changed ≤ blockSize
+
+-- ---- C-15: "the key is equal exactly at 0"
+
+-- the test, that the four bytes from `at` on and the four as sent differ in no place, holds exactly
+-- if they are the same
+abbrev pub KeyEqual : Type 0
+KeyEqual = (bs : List ℕ) (at u w : ℕ) → (isKey bs at u w ≡ true) ↔ (take keyLength (drop at bs) ≡ asSent u w)
 
 -- ---- a write is its bytes, one by one
 

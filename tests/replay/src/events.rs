@@ -13,6 +13,7 @@ use std::ops::Range;
 use std::sync::LazyLock;
 
 const WINDOW: usize = 0x40;
+const WORD_MADE: usize = 0x01;
 const COMMIT: usize = 0x60;
 const CONTROL: usize = 0x61;
 const BLOCK_B: Loaded = Loaded { class: INFO_CLASS, block: 1 };
@@ -25,6 +26,8 @@ struct Line<'a> {
     mode: Mode,
     /// The keys that it met in the image.
     keys: Vec<u8>,
+    /// The word that it found waiting.
+    pending: Option<u16>,
     /// The gauge that it left.
     gauge: &'a Gauge,
     error: Option<Error>,
@@ -54,6 +57,11 @@ const OF_LINES: &[Event] = &[
     ("refusal 16", |line| line.is_refused(Error::Keys)),
     ("gauge unsealed", |line| line.passes(Mode::Sealed, Mode::Unsealed)),
     ("full access reached", |line| line.passes(Mode::Unsealed, Mode::FullAccess)),
+    ("wrong key, in its first byte alone", |line| line.wrong_key_bytes() == [0]),
+    ("wrong key, in its second byte alone", |line| line.wrong_key_bytes() == [1]),
+    ("wrong key, in its third byte alone", |line| line.wrong_key_bytes() == [2]),
+    ("wrong key, in its fourth byte alone", |line| line.wrong_key_bytes() == [3]),
+    ("wrong key, in all four bytes", |line| line.wrong_key_bytes() == [0, 1, 2, 3]),
     ("flash changed by a commit", |line| line.changed > 0),
     ("commit that changed 32 bytes", |line| line.changed == BLOCK_LENGTH),
     ("commit that changed nothing", |line| line.commits() && line.changed == 0),
@@ -120,16 +128,18 @@ pub fn count(files: &Files, times: &mut [usize]) -> usize {
 fn run<'a>(gauge: &'a mut Gauge, frame: Frame) -> Line<'a> {
     let mode = gauge.record.mode;
     let keys = stored_keys(gauge).to_vec();
+    let pending = gauge.record.pending;
     match frame {
         Frame::Write { register, bytes } => {
             let written = gauge.write(register, bytes);
             let first = usize::from(register);
             let taken = first..first + written.accepted;
-            Line { mode, keys, gauge, error: written.error, taken, changed: written.changed }
+            let (error, changed) = (written.error, written.changed);
+            Line { mode, keys, pending, gauge, error, taken, changed }
         }
         Frame::Read { register, count } => {
             let error = gauge.read(register, usize::from(count), &mut [0; 255]).err();
-            Line { mode, keys, gauge, error, taken: 0..0, changed: 0 }
+            Line { mode, keys, pending, gauge, error, taken: 0..0, changed: 0 }
         }
     }
 }
@@ -145,6 +155,18 @@ impl Line<'_> {
 
     fn passes(&self, from: Mode, to: Mode) -> bool {
         (self.mode, self.gauge.record.mode) == (from, to)
+    }
+
+    /// In which places two words in a row are not the key that the gauge waited for: none where no
+    /// second word was made, or not taken for one of a key, or where they are the key.
+    fn wrong_key_bytes(&self) -> Vec<usize> {
+        let words = self.pending.zip(self.gauge.record.pending);
+        let Some((first, second)) = words.filter(|_| self.taken.contains(&WORD_MADE)) else {
+            return Vec::new();
+        };
+        let key = if self.mode == Mode::Sealed { &self.keys[..4] } else { &self.keys[4..] };
+        let sent = [first.to_le_bytes(), second.to_le_bytes()].concat();
+        (0..4).filter(|&place| sent[place] != key[place]).collect()
     }
 
     fn commits(&self) -> bool {

@@ -137,8 +137,11 @@ fn word_and_more(draft: &mut Draft) {
     draft.write(0x00, &bytes[..count]);
 }
 
-/// The unseal key, sometimes with harmless frames between its words.
+/// The unseal key, sometimes with harmless frames between its words, or after wrong ones.
 pub fn unseal(draft: &mut Draft) {
+    if draft.random.chance(15) {
+        each_byte_off(draft);
+    }
     let [a, b] = draft.unseal_words();
     draft.word(a);
     if draft.random.chance(30) {
@@ -168,19 +171,32 @@ pub fn full_access(draft: &mut Draft) {
     }
 }
 
-/// Words that are nearly the key that the gauge waits for, or that are it with something before.
-fn near_key(draft: &mut Draft) {
-    let (key, other) = match draft.mode() {
+/// The words of the key that the gauge waits for, and those of the other one.
+fn wanted_and_other(draft: &Draft) -> ([u16; 2], [u16; 2]) {
+    match draft.mode() {
         Mode::Sealed => (draft.unseal_words(), draft.full_access_words()),
         _ => (draft.full_access_words(), draft.unseal_words()),
-    };
-    let [a, b] = key;
+    }
+}
+
+/// The key that the gauge waits for with its first byte wrong, then with its second one, and so on.
+fn each_byte_off(draft: &mut Draft) {
+    for (word, shift) in [(0, 0), (0, 8), (1, 0), (1, 8)] {
+        let (mut key, _) = wanted_and_other(draft);
+        let (bit, any) = (1 << draft.random.below(8), draft.random.between(1, 0xFF) as u16);
+        key[word] ^= draft.random.pick(&[bit, any]) << shift;
+        draft.words(&key);
+    }
+}
+
+/// Words that are nearly the key that the gauge waits for, or that are it with something before.
+fn near_key(draft: &mut Draft) {
+    let ([a, b], other) = wanted_and_other(draft);
     let any = draft.random.number() as u16;
     let command = draft.random.pick(&COMMAND_WORDS);
     let bit = 1 << draft.random.below(16);
     match draft.random.below(14) {
-        0 => draft.words(&[a ^ bit, b]),
-        1 => draft.words(&[a, b ^ bit]),
+        0 | 1 => each_byte_off(draft),
         2 => draft.words(&[b, a]),
         3 => draft.words(&[a.swap_bytes(), b.swap_bytes()]),
         4 => draft.words(&[a, command, b]),

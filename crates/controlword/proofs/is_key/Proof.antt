@@ -1,8 +1,6 @@
--- `controlword::is_key` meets its contract. Byte by byte, where there are four.
+-- `controlword::is_key` meets its contract. Equal exactly at 0, where there are four bytes.
 use borrow.Author.Needs.{needs}
-use Rattle.flashrules.proofs.Picks.{picks, calls}
-use Rattle.gaugerules.proofs.Picks.{byteRules}
-use Rattle.controlword.proofs.WordLaws.{key-short, key-is}
+use Rattle.controlword.proofs.WordLaws.{key-short, key-at-zero}
 use Rattle.controlword.proofs.is_key.Statement.{statement}
 use Rattle.controlword.proofs.is_key.Tie as tie
 
@@ -13,13 +11,4 @@ is-key-spec =
     (λ c. search needs)
     (λ c. search (needs, key-short))
     (λ c κs. search needs)
-    (λ c. search needs)
-    (λ c κs. search needs)
-    (λ c. search needs)
-    (λ c κs. search needs)
-    (λ c. search needs)
-    (λ c κs. search needs)
-    (λ c. search (needs, picks, calls, byteRules, key-is) depth 14)
-    (λ c. search (needs, picks, calls, byteRules, key-is) depth 14)
-    (λ c. search (needs, picks, calls, byteRules, key-is) depth 14)
-    (λ c. search (needs, picks, calls, byteRules, key-is) depth 14))
+    (λ c. search (needs, key-at-zero)))

@@ -53,7 +53,11 @@ fn check_mir(file: &Path) -> Result<(), String> {
             return Err(format!("{function} has a branch in its MIR: {branches:?}"));
         }
     }
-    println!("no branch in the MIR of {}", Vec::from_iter(functions).join(", "));
+    let bypasses = mir::bypasses(&mir, COMPARISON)?;
+    if !bypasses.is_empty() {
+        return Err(format!("key bytes may be known without all of {COMPARISON}: {bypasses:?}"));
+    }
+    println!("no branch in the MIR of {}, and no way past", Vec::from_iter(functions).join(", "));
     Ok(())
 }
 

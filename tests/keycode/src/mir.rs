@@ -24,6 +24,24 @@ pub fn branches(mir: &str, function: &str) -> Result<Vec<&'static str>, String> 
     Ok(BRANCHES.into_iter().filter(|form| body.contains(&format!("({form} "))).collect())
 }
 
+/// The functions of the same crate that may know a byte before all are looked at: they are no part
+/// of the function, and read memory or call a part of it in place of the whole.
+pub fn bypasses<'a>(mir: &'a str, function: &'a str) -> Result<Vec<&'a str>, String> {
+    let parts = reached(mir, function)?;
+    let start = format!("(fn-def \"{}::", function.split("::").next().unwrap_or(function));
+    let of_crate = mir.match_indices(&start).map(|(at, _)| &mir[at + "(fn-def \"".len()..]);
+    let names = of_crate.filter_map(|rest| rest.split('"').next());
+    let mut found = Vec::new();
+    for name in names.filter(|name| !parts.contains(name)) {
+        let body = body(mir, name)?;
+        let is_part = |callee: &&str| *callee != function && parts.contains(callee);
+        if body.contains("(deref ") || quoted(body, "(fnRef \"").iter().any(is_part) {
+            found.push(name);
+        }
+    }
+    Ok(found)
+}
+
 fn body<'a>(mir: &'a str, function: &str) -> Result<&'a str, String> {
     let start = format!("(fn-def \"{function}\"");
     let at = mir.find(&start).ok_or(format!("{function} has no MIR"))?;
@@ -63,8 +81,24 @@ mod tests {
     }
 
     #[test]
+    fn a_caller_of_the_whole_is_no_bypass() {
+        assert_eq!(bypasses(MIR, "c::sum"), Ok(vec![]));
+    }
+
+    #[test]
+    fn a_caller_of_a_part_and_a_reader_are_bypasses() {
+        let part = MIR.replace("(fnRef \"c::sum\")", "(fnRef \"c::low\")");
+        assert_eq!(bypasses(&part, "c::sum"), Ok(vec!["c::test"]));
+        let reader = MIR.replace("(copy (place 1 lnil))", "(copy (place 1 (deref (tyInt 8))))");
+        assert_eq!(bypasses(&reader, "c::sum"), Ok(vec!["c::test"]));
+        let elsewhere = reader.replace("c::test", "d::test");
+        assert_eq!(bypasses(&elsewhere, "c::sum"), Ok(vec![]));
+    }
+
+    #[test]
     fn a_function_without_mir_is_no_success() {
         assert!(reached(MIR, "c::other").is_err());
         assert!(branches(MIR, "c::other").is_err());
+        assert!(bypasses(MIR, "c::other").is_err());
     }
 }

@@ -87,7 +87,8 @@ oversnithe_parameter_value oversnithe_parameter_get(oversnithe_layout layout, co
 /*
  * Sets a parameter to a value, and answers the error: those above, then 13 where the value is not
  * in range. The image's bytes of that parameter become the value's, and no other byte changes;
- * refused, none does.
+ * refused, none does. The image is what a gauge just powered on would leave, so there is no supply
+ * to be told, and 17 is never answered.
  */
 uint8_t oversnithe_parameter_set(oversnithe_layout layout, uint8_t *image, size_t length,
                                  oversnithe_parameter parameter, int64_t value);

@@ -4,6 +4,7 @@ use checksum::checksum;
 use dataflash::count::differing;
 use dataflash::store_block;
 use dataflash::store_changes;
+use flashrules::error::LOW_SUPPLY;
 use flashrules::error::PROTECTED_KEYS;
 use flashrules::error::WRONG_CHECKSUM;
 use flashrules::layout::KEY_CLASS;
@@ -14,6 +15,7 @@ use gaugerules::keys::KEY_BLOCK;
 use gaugerules::keys::KEYS_END;
 use gaugerules::state::Gauge;
 use gaugerules::state::Loaded;
+use gaugerules::state::MIN_COMMIT_SUPPLY;
 use gaugerules::state::UNSEALED;
 use gaugestate::state::is_loaded;
 use gaugestate::state::loaded;
@@ -62,17 +64,21 @@ fn commit_error(layout: Layout, image: &[u8], gauge: Gauge, byte: u8) -> u8
     ensures { λ r. ⌜ r ≡ commitError layout (now (image .entry)) gauge byte ⌝ }
 {
     let error = edit_error(gauge);
-    if error == 0 {
-        let window = gauge.window;
-        if byte == window_sum(window) {
-            if changes_keys(layout, image, gauge) {
-                return PROTECTED_KEYS;
-            }
-            return 0;
-        }
+    if error != 0 {
+        return error;
+    }
+    let window = gauge.window;
+    let sum = window_sum(window);
+    if byte != sum {
         return WRONG_CHECKSUM;
     }
-    error
+    if changes_keys(layout, image, gauge) {
+        return PROTECTED_KEYS;
+    }
+    if gauge.supply < MIN_COMMIT_SUPPLY {
+        return LOW_SUPPLY;
+    }
+    0
 }
 
 // The gauge as it was, the image with so many bytes changed.

@@ -18,6 +18,7 @@ use Rattle.gaugerules.specs.Transfer.{setClass, loadBlock, selectBlock, isProte
 use Rattle.gaugerules.specs.State.{loadedOf}
 use Rattle.gaugerules.specs.Write.{commit, writeAt, writeByte, writeBytes, badSpan, callError, write}
 use Rattle.gaugerules.specs.Read.{readAt, readByte, readBytes, readError, read}
+use Rattle.gaugerules.specs.Supply.{supplyError, setSupply}
 use Rattle.gaugerules.specs.Script.{reply, afterCall}
 use Rattle.parameterrules.specs.Integer.{toBytes, fromBytes, fitsIn}
 use Rattle.parameterrules.specs.Kind.{widthOf, isSigned, holds as holdsInteger}
@@ -25,7 +26,7 @@ use Rattle.parameterrules.specs.Parameter.{valid as validParameter, inRange as 
 use Rattle.scriptrules.specs.Parser.{isDigit, isWhole, withDigit, withCharacter, feedByte, endError, parseScript}
 use Rattle.scriptrules.specs.Reply.{replyText, afterFrame}
 use Rattle.scriptrules.specs.Replay.{replay}
-use Rattle.causerules.specs.History.{byteSteps, writeSteps}
+use Rattle.causerules.specs.History.{byteSteps, writeSteps, supplySteps}
 use Rattle.causerules.specs.Cause.{reasonOf, causeText}
 use Rattle.scriptrules.specs.Why.{explanation, why}
 use Rattle.casetable.specs.Cases.{passes, every, CasesHold}
@@ -33,7 +34,7 @@ use Rattle.casetable.specs.Session.{SessionHolds}
 use Rattle.casetable.specs.Why.{CausesHold}
 
 computed : CasesHold × SessionHolds × CausesHold
-unfolding passes every classes validLayout fits findClass findBlock blockExists blockBytes storeBlock asLoaded inRange valid registerOf isKey keyWord obey setClass loadBlock selectBlock isProtected editError edit changesKeys commitError committed setControl outcome loadedOf commit writeAt writeByte writeBytes badSpan callError write readAt readByte readBytes readError read reply afterCall indexOf indexAfter digit value line blockLines serializeImage width addLine candidate holds parseImage isDigit isWhole withDigit withCharacter feedByte endError parseScript replyText afterFrame replay toBytes fromBytes fitsIn widthOf isSigned holdsInteger validParameter inParameterRange getError setError valueIn get set byteSteps writeSteps reasonOf causeText explanation why
+unfolding passes every classes validLayout fits findClass findBlock blockExists blockBytes storeBlock asLoaded inRange valid registerOf isKey keyWord obey setClass loadBlock selectBlock isProtected editError edit changesKeys commitError committed setControl outcome loadedOf commit writeAt writeByte writeBytes badSpan callError write readAt readByte readBytes readError read supplyError setSupply reply afterCall indexOf indexAfter digit value line blockLines serializeImage width addLine candidate holds parseImage isDigit isWhole withDigit withCharacter feedByte endError parseScript replyText afterFrame replay toBytes fromBytes fitsIn widthOf isSigned holdsInteger validParameter inParameterRange getError setError valueIn get set byteSteps writeSteps supplySteps reasonOf causeText explanation why
 computed = (refl, refl, refl)
 
 pub cases-hold : CasesHold

@@ -7,7 +7,7 @@ use Rattle.scriptrules.specs.Why.{why}
 use Rattle.casetable.specs.Lines.{linesText}
 use Rattle.casetable.specs.Session.{image}
 
--- refused are lines 1, 3, 6, 8, 10, 13, 14, 17, 18, 19, 22, 23 and 24
+-- refused are lines 1, 3, 6, 8, 10, 13, 14, 17, 18, 19, 22, 23, 24, 25 and 28
 abbrev pub refusedScript : List ℕ
 refusedScript =
     linesText
@@ -35,11 +35,15 @@ refusedScript =
     ∷ (0x01 ∷ 0x3F ∷ 0x04 ∷ [])
     ∷ (0x01 ∷ 0x3E ∷ 0x30 ∷ [])
     ∷ (0x01 ∷ 0x40 ∷ 0x55 ∷ [])
+    ∷ (0x02 ∷ 0x11 ∷ 0x95 ∷ [])
+    ∷ (0x02 ∷ 0x0A ∷ 0x8B ∷ [])
+    ∷ (0x01 ∷ 0x3F ∷ 0x02 ∷ [])
+    ∷ (0x01 ∷ 0x60 ∷ 0xFF ∷ [])
     ∷ [])
 
 -- 3, 7, 9, 6, 4, C-14's 16, 5, 8, 2 and 1, each with the line that caused it; behind 8 the
--- checksum. Then 5
--- without general access, 3 after two lines that seal, and 6 after an unload in a refused write
+-- checksum. Then 5 without general access, 3 after two lines that seal, and 6 after an unload in a
+-- refused write; and C-16's 1 of a supply and 17
 abbrev pub causes : List ℕ
 causes =
     linesText
@@ -56,6 +60,8 @@ causes =
     ∷ (0x05 ∷ 0x00 ∷ 0x00 ∷ 0x00 ∷ 0x16 ∷ [])
     ∷ (0x03 ∷ 0x00 ∷ 0x00 ∷ 0x00 ∷ 0x14 ∷ [])
     ∷ (0x06 ∷ 0x00 ∷ 0x00 ∷ 0x00 ∷ 0x12 ∷ [])
+    ∷ (0x01 ∷ 0x00 ∷ 0x00 ∷ 0x00 ∷ 0x19 ∷ [])
+    ∷ (0x11 ∷ 0x00 ∷ 0x00 ∷ 0x00 ∷ 0x1C ∷ [])
     ∷ [])
 
 abbrev pub CausesHold : Type 0

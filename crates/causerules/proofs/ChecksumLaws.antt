@@ -1,5 +1,5 @@
 -- The checksum that would have matched: only a byte at 0x60 is refused with 8, and there alone for
--- its number, so that the right one in its place commits or is refused with 16, which comes behind.
+-- its number, so that the right one in its place commits or is refused with what comes behind 8.
 -- The bytes before it leave the image.
 use Prim.Native.Nat.{ℕ, zero, suc, _+_, _<_}
 use mathlib.Core.Path.{_≡_, refl, ap, _∙_}
@@ -9,18 +9,20 @@ use native.Mathlib.Omega.{arith}
 use lib.Dec.{eqb}
 use lib.ListN.{length, take, length-append}
 use lib.Seq.{length-take-le}
-use borrow.Author.Tests.{eqb-true, eqb-false, eq-eqb}
+use borrow.Author.Tests.{eqb-true, eqb-false, eq-eqb, ne-eqb}
 use Rattle.checksum.specs.Checksum.{checksum}
-use Rattle.flashrules.specs.Error.{wrongChecksum, protectedKeys}
+use Rattle.flashrules.specs.Error.{wrongChecksum}
+use Rattle.flashrules.specs.Refusal.{firstError}
 use Rattle.flashrules.specs.Outcome.{Outcome, outcome}
 use Rattle.flashrules.specs.Choice.{differing}
 use Rattle.flashrules.specs.Image.{Bytes}
 use Rattle.flashrules.specs.declared.layout.Layout.{Layout}
+use Rattle.flashrules.proofs.Laws.{no-error}
 use Rattle.flashrules.proofs.Picks.{on-test}
 use Rattle.flashrules.proofs.RefusalLaws.{first-in}
 use Rattle.flashrules.proofs.DifferingLaws.{differing-self}
 use Rattle.gaugerules.specs.Register.{blockDataChecksum, registerOf}
-use Rattle.gaugerules.specs.Transfer.{byteWritten, refuse, changesKeys, commitError}
+use Rattle.gaugerules.specs.Transfer.{byteWritten, refuse, guardTests, commitError}
 use Rattle.gaugerules.specs.Write.{commit, writeAt, writeByte, written, writeBytes, callTests, callError, write}
 use Rattle.gaugerules.specs.Laws.{Good, commits, Committed}
 use Rattle.gaugerules.specs.declared.state.Gauge.{Gauge}
@@ -35,11 +37,16 @@ use Rattle.causerules.proofs.ReasonLaws.{Mismatched, wrong-checksum}
 abbrev righted : ℕ → List ℕ → Gauge → List ℕ
 righted count bs g = take count bs ++ (checksum (g .window) ∷ [])
 
--- one byte more than n is accepted, and commits what gauge g has; or it is refused with 16
+-- the refusal behind 8
+abbrev guarded : Layout → List ℕ → Gauge → ℕ
+guarded l image g = firstError (guardTests l image g)
+
+-- one byte more than n is accepted, and commits what gauge g has; or it is refused with that
 abbrev Rights : Layout → List ℕ → ℕ → Gauge → Outcome Written (List ℕ) → Type 0
 Rights l image n g v =
-    (changesKeys l image g ≡ false → (v .answer ≡ written 0 (n + 1) (v .answer .changed) g) × Committed l image g (v .lent))
-    × (changesKeys l image g ≡ true → (v .answer ≡ written protectedKeys n (v .answer .changed) g) × (v .lent ≡ image))
+    let e = guarded l image g in
+    (e ≡ 0 → (v .answer ≡ written 0 (n + 1) (v .answer .changed) g) × Committed l image g (v .lent))
+    × ((e ≡ 0 → ⊥) → (v .answer ≡ written e n (v .answer .changed) g) × (v .lent ≡ image))
 
 -- what is claimed of a run over bs from r on, before which n were accepted
 record Right (l : Layout) (image : List ℕ) (r n : ℕ) (bs : List ℕ) (w : Written) (run : List ℕ → Outcome Written (List ℕ)) : Type 0 where
@@ -64,22 +71,25 @@ module _ (l : Layout) (image : List ℕ) (g : Gauge) (r n c : ℕ) where
   abbrev sum : ℕ
   sum = checksum (g .window)
 
-  right-commits : Good l image g → Mismatched g r → changesKeys l image g ≡ false
+  right-commits : Good l image g → Mismatched g r → guarded l image g ≡ 0
       → let v = writeBytes l image g r n c (sum ∷ []) in (v .answer ≡ written 0 (n + 1) (v .answer .changed) g) × Committed l image g (v .lent)
   unfolding writeBytes outcome
   right-commits o m k =
       let t = writeByte l image g blockDataChecksum sum in
-      let all : commits l image g sum ≡ true = rw (m .loaded, m .free, eq-eqb sum sum refl, k) in
+      let free = no-error (guardTests l image g) (omega arith, (omega arith, tt)) .0 k in
+      let all : commits l image g sum ≡ true = rw (m .loaded, m .free, eq-eqb sum sum refl, free .0, free .1 .0) in
       let does = commit-rule l image g sum (o .fits) (o .valid) .0 all in
       let is : t ≡ outcome (byteWritten 0 (differing image (t .lent)) g) (t .lent) = ap (λ (s : ByteWritten). outcome s (t .lent)) (does .0) in
       rw (m .register, goes-on l image g blockDataChecksum n c sum [] _ (t .lent) is refl) (refl, does .1)
 
-  right-refused : Mismatched g r → changesKeys l image g ≡ true
-      → let v = writeBytes l image g r n c (sum ∷ []) in (v .answer ≡ written protectedKeys n (v .answer .changed) g) × (v .lent ≡ image)
+  right-refused : Mismatched g r → (guarded l image g ≡ 0 → ⊥)
+      → let v = writeBytes l image g r n c (sum ∷ []) in (v .answer ≡ written (guarded l image g) n (v .answer .changed) g) × (v .lent ≡ image)
   unfolding writeByte writeAt registerOf commit commitError outcome
   right-refused m k =
-      let is : writeByte l image g blockDataChecksum sum ≡ outcome (refuse protectedKeys g) image = rw (m .loaded, m .free, eq-eqb sum sum refl, k) in
-      rw (m .register, stops l image g blockDataChecksum n c sum [] (refuse protectedKeys g) image is refl) (refl, refl)
+      let e = guarded l image g in
+      let some = ne-eqb e 0 k in
+      let is : writeByte l image g blockDataChecksum sum ≡ outcome (refuse e g) image = rw (m .loaded, m .free, eq-eqb sum sum refl, some) in
+      rw (m .register, stops l image g blockDataChecksum n c sum [] (refuse e g) image is some) (refl, refl)
 
   right : Good l image g → Mismatched g r → Rights l image n g (writeBytes l image g r n c (sum ∷ []))
   right o m = (right-commits o m, right-refused m)
@@ -175,7 +185,7 @@ checksum-matches l image g r bytes h o e =
       λ k.
           let kept = right .1 k in
           let none : v .answer .changed ≡ 0 = changed ∙ rw (kept .1) (differing-self image) in
-          let is : v .answer ≡ written protectedKeys (w .accepted) 0 (w .gauge) =
-          kept .0 ∙ ap (λ (n : ℕ). written protectedKeys (w .accepted) n (w .gauge)) none in
-          ap (λ (a : Written). outcome a (v .lent)) is ∙ ap (outcome (written protectedKeys (w .accepted) 0 (w .gauge))) (kept .1),
+          let e = guarded l image (w .gauge) in
+          let is : v .answer ≡ written e (w .accepted) 0 (w .gauge) = kept .0 ∙ ap (λ (n : ℕ). written e (w .accepted) n (w .gauge)) none in
+          ap (λ (a : Written). outcome a (v .lent)) is ∙ ap (outcome (written e (w .accepted) 0 (w .gauge))) (kept .1),
     )

@@ -75,7 +75,7 @@ never : (line : ℕ) (h : List Step) → latestOr line (gives Reason.Itself) h �
 never line [] = refl
 never line (s ∷ h) = never line h
 
-line-more : (r : Reason) (line : ℕ) (h more : List Step) → lineFor r line (h ++ more) ≡ latestOr (lineFor r line h) (gives r) more
+pub line-more : (r : Reason) (line : ℕ) (h more : List Step) → lineFor r line (h ++ more) ≡ latestOr (lineFor r line h) (gives r) more
 line-more Reason.Itself line h more = sym (never line more)
 line-more Reason.Sealed line h more = latest-append (gives Reason.Sealed) h more 0
 line-more Reason.NothingLoaded line h more = latest-append (gives Reason.NothingLoaded) h more 0

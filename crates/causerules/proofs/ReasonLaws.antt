@@ -11,7 +11,7 @@ use lib.Dec.{eqb, leb}
 use lib.ListN.{length}
 use borrow.Author.Tests.{eqb-true, eqb-false, not-false, eq-eqb, le-leb, lt-leb}
 use Rattle.flashrules.specs.Error.{readOnly, sealedRegister, unknownClass, unknownBlock, nothingLoaded, protectedBlock, wrongChecksum}
-use Rattle.flashrules.specs.Error.{invalidControl, protectedKeys}
+use Rattle.flashrules.specs.Error.{invalidControl, protectedKeys, lowSupply}
 use Rattle.flashrules.specs.Choice.{and}
 use Rattle.flashrules.specs.Refusal.{firstError}
 use Rattle.flashrules.specs.Outcome.{Outcome, outcome}
@@ -25,7 +25,7 @@ use Rattle.gaugerules.specs.Keys.{keys, isKey}
 use Rattle.gaugerules.specs.Word.{word, statusWord, sealWord, resetWord, keyWanted, keyWord, obey}
 use Rattle.gaugerules.specs.Transfer.{isProtected}
 use Rattle.gaugerules.specs.Write.{writeAt, writeByte, written, writeBytes, callTests, callError, write}
-use Rattle.gaugerules.specs.Table.{byteTests, row2, row3, row4, row5, row6, row7, row8, row9, row16}
+use Rattle.gaugerules.specs.Table.{byteTests, row2, row3, row4, row5, row6, row7, row8, row9, row16, row17}
 use Rattle.gaugerules.specs.declared.state.Gauge.{Gauge}
 use Rattle.gaugerules.specs.declared.register.Register.{Register}
 use Rattle.gaugerules.specs.declared.answer.ByteWritten.{ByteWritten}
@@ -59,9 +59,9 @@ module _ (l : Layout) (image : List ℕ) (g : Gauge) (r byte : ℕ) where
 
   -- a proof by the cases of the error, with what its row says of the gauge
   on-row : (P : ℕ → Type 0) → P 0 → P readOnly → (isSealed g ≡ true → P sealedRegister) → P invalidControl → P unknownClass → P unknownBlock
-      → (noneLoaded g ≡ true → P nothingLoaded) → (isProtected g ≡ true → P protectedBlock) → (Mismatched g r → P wrongChecksum) → P protectedKeys
+      → (noneLoaded g ≡ true → P nothingLoaded) → (isProtected g ≡ true → P protectedBlock) → (Mismatched g r → P wrongChecksum) → P protectedKeys → P lowSupply
       → P (firstError (byteTests l image g r byte))
-  on-row P none p2 p3 p9 p4 p5 p6 p7 p8 p16 =
+  on-row P none p2 p3 p9 p4 p5 p6 p7 p8 p16 p17 =
       on-cond P (row2 r) _ _ (λ _. p2) (λ _.
       on-cond P (row3 g r) _ _ (λ t. p3 (search (and-first, and-rest))) (λ _.
       on-cond P (row9 r byte) _ _ (λ _. p9) (λ _.
@@ -70,14 +70,15 @@ module _ (l : Layout) (image : List ℕ) (g : Gauge) (r byte : ℕ) where
       on-cond P (row6 g r) _ _ (λ t. p6 (search (and-first, and-rest))) (λ n.
       on-cond P (row7 g r) _ _ (λ t. p7 (search (and-first, and-rest))) (λ p.
       on-cond P (row8 g r byte) _ _ (λ t. p8 (mismatched n p t)) (λ _.
-      on-cond P (row16 l image g r) _ _ (λ _. p16) (λ _. none)))))))))
+      on-cond P (row16 l image g r) _ _ (λ _. p16) (λ _.
+      on-cond P (row17 g r) _ _ (λ _. p17) (λ _. none))))))))))
 
 module _ (l : Layout) (image : List ℕ) (g : Gauge) (r byte : ℕ) (f : fits l (length image) ≡ true) where
   pub wrong-checksum : writeByte l image g r byte .answer .error ≡ wrongChecksum → Mismatched g r
   wrong-checksum e =
       on-row l image g r byte (λ e. e ≡ wrongChecksum → Mismatched g r) (λ z. absurd (omega arith)) (λ z. absurd (omega arith))
       (λ _ z. absurd (omega arith)) (λ z. absurd (omega arith)) (λ z. absurd (omega arith)) (λ z. absurd (omega arith))
-      (λ _ z. absurd (omega arith)) (λ _ z. absurd (omega arith)) (λ m _. m) (λ z. absurd (omega arith)) (rw (byte-error l image g r byte f) at e)
+      (λ _ z. absurd (omega arith)) (λ _ z. absurd (omega arith)) (λ m _. m) (λ z. absurd (omega arith)) (λ z. absurd (omega arith)) (rw (byte-error l image g r byte f) at e)
 
   holds : let e = writeByte l image g r byte .answer .error in holdsFor (reasonOf e g) g g ≡ true
   unfolding reasonOf
@@ -86,7 +87,7 @@ module _ (l : Layout) (image : List ℕ) (g : Gauge) (r byte : ℕ) (f : fits l 
       rw (byte-error l image g r byte f)
       (on-row l image g r byte (λ e. holdsFor (reasonOf e g) g g ≡ true) refl refl (λ s. s) refl class
       (on-cond (λ (why : Reason). holdsFor why g g ≡ true) (generalAccess g) _ _ (λ _. class) (λ _. refl)) (λ n. n) (λ p. p)
-      (λ m. rw (m .loaded, same-refl (g .window))) refl)
+      (λ m. rw (m .loaded, same-refl (g .window))) refl refl)
 
 abbrev Holds : Written → Type 0
 Holds w = holdsFor (reasonOf (w .error) (w .gauge)) (w .gauge) (w .gauge) ≡ true
@@ -185,7 +186,7 @@ told-window l image met g line r byte = record {
 }
 
 -- of any reason, where it is so of the window
-told : (met : Gauge) (s : Step) → Tells (gives Reason.Window) (gaveFor Reason.Window met) (holdsFor Reason.Window met) s
+pub told : (met : Gauge) (s : Step) → Tells (gives Reason.Window) (gaveFor Reason.Window met) (holdsFor Reason.Window met) s
     → (why : Reason) → Tells (gives why) (gaveFor why met) (holdsFor why met) s
 told met s w Reason.Itself = record { picked = λ b _. absurd (true≢false (sym b)); other = λ _ _. (refl, refl) }
 told met s w Reason.Sealed = told-begun isSealed s

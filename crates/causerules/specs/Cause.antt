@@ -64,7 +64,8 @@ gives Reason.Window s = setsWindow s
 
 -- the reason of a refusal, of a byte that met gauge g: "For 1, 2 and 9 that is the line itself. For
 -- 3, 6 and 7 ..", "For 4 and 5 in general access ..; for 5 otherwise, the line itself. For 8 ..".
--- C-14: "16, after 8; C-13 names the line itself"
+-- C-14: "16, after 8; C-13 names the line itself"; C-16: "for both names the line itself", for 17
+-- and for a supply
 unfoldable pub reasonOf : ℕ → Gauge → Reason
 reasonOf e g =
     cond (eqb e sealedRegister) Reason.Sealed

@@ -7,18 +7,20 @@ use mathlib.Core.List.{List, [], _∷_, _++_}
 use lib.Dec.{eqb, leb}
 use lib.ListN.{length, take}
 use Rattle.checksum.specs.Checksum.{checksum}
-use Rattle.flashrules.specs.Error.{wrongChecksum, protectedKeys}
+use Rattle.flashrules.specs.Error.{wrongChecksum}
+use Rattle.flashrules.specs.Refusal.{firstError}
 use Rattle.flashrules.specs.Outcome.{outcome}
 use Rattle.flashrules.specs.Choice.{and, same, differing}
 use Rattle.flashrules.specs.Layout.{fits}
 use Rattle.flashrules.specs.Image.{Bytes}
 use Rattle.flashrules.specs.declared.layout.Layout.{Layout}
 use Rattle.gaugerules.specs.State.{isSealed, noneLoaded}
-use Rattle.gaugerules.specs.Transfer.{isProtected, changesKeys}
+use Rattle.gaugerules.specs.Transfer.{isProtected, guardTests}
 use Rattle.gaugerules.specs.Write.{written, write}
+use Rattle.gaugerules.specs.Supply.{setSupply}
 use Rattle.gaugerules.specs.Laws.{Good, Committed}
 use Rattle.gaugerules.specs.declared.state.Gauge.{Gauge}
-use Rattle.causerules.specs.History.{Step, writeSteps}
+use Rattle.causerules.specs.History.{Step, writeSteps, supplySteps}
 use Rattle.causerules.specs.Cause.{latest, gives, reasonOf, lineFor}
 use Rattle.causerules.specs.Notes.{recall, noteAll}
 use Rattle.causerules.specs.declared.reason.Reason.{Reason}
@@ -46,6 +48,12 @@ WriteHistory =
     let h = writeSteps l image g line r bytes in
     Leads g h (w .gauge) × (length h ≡ w .accepted) × EachStep (OfLine line) h
 
+-- and so does that of a supply call
+abbrev pub SupplyHistory : Type 0
+SupplyHistory =
+    (l : Layout) (size : ℕ) (g : Gauge) (line millivolts : ℕ) → let h = supplySteps l size g line millivolts in
+    Leads g h (setSupply l size g millivolts .gauge) × EachStep (OfLine line) h
+
 -- ---- notes are worth the history
 
 -- C-13's lines, by the notes
@@ -55,6 +63,12 @@ Remembers n h = (r : Reason) → recall n r ≡ lineFor r (n .line) h
 -- whatever was noted before: noting more is worth a history with more behind it
 abbrev pub NotesRemember : Type 0
 NotesRemember = (n : Notes) (h more : List Step) → Remembers n h → Remembers (noteAll n more) (h ++ more)
+
+-- a supply gives no reason, so that nothing is noted of it
+abbrev pub SupplyRemembered : Type 0
+SupplyRemembered =
+    (l : Layout) (size : ℕ) (g : Gauge) (line millivolts : ℕ) (n : Notes) (h : List Step) → Remembers n h
+    → Remembers n (h ++ supplySteps l size g line millivolts)
 
 -- ---- the named line is the true one
 
@@ -127,16 +141,22 @@ ReasonTold =
     (l : Layout) (image : List ℕ) (g : Gauge) (line r : ℕ) (bytes : List ℕ) (why : Reason) (met : Gauge)
     → EachStep (Tells (gives why) (gaveFor why met) (holdsFor why met)) (writeSteps l image g line r bytes)
 
+abbrev pub SupplyTold : Type 0
+SupplyTold =
+    (l : Layout) (size : ℕ) (g : Gauge) (line millivolts : ℕ) (why : Reason) (met : Gauge)
+    → EachStep (Tells (gives why) (gaveFor why met) (holdsFor why met)) (supplySteps l size g line millivolts)
+
 -- ---- the checksum that would have matched
 
 -- written in place of the byte that was refused, it is accepted and commits; or, where an unsealed
--- gauge would change a key, it is refused with 16, and nothing but the bytes before it stands
+-- gauge would change a key or the supply is low, it is refused with 16 or 17, and nothing but the
+-- bytes before it stands
 abbrev pub ChecksumMatches : Type 0
 ChecksumMatches =
     (l : Layout) (image : List ℕ) (g : Gauge) (r : ℕ) (bytes : List ℕ) → Bytes bytes → Good l image g
     → let w = write l image g r bytes in
     w .answer .error ≡ wrongChecksum → let n = w .answer .accepted in let h = w .answer .gauge in
     let v = write l image g r (take n bytes ++ (checksum (h .window) ∷ [])) in
-    (changesKeys l image h ≡ false
-    → (v .answer ≡ written 0 (n + 1) (differing image (v .lent)) h) × Committed l image h (v .lent))
-    × (changesKeys l image h ≡ true → v ≡ outcome (written protectedKeys n 0 h) image)
+    let e = firstError (guardTests l image h) in
+    (e ≡ 0 → (v .answer ≡ written 0 (n + 1) (differing image (v .lent)) h) × Committed l image h (v .lent))
+    × ((e ≡ 0 → ⊥) → v ≡ outcome (written e n 0 h) image)

@@ -6,6 +6,7 @@ use mathlib.Core.List.{List, [], _∷_}
 use Rattle.flashrules.specs.Outcome.{Outcome, outcome}
 use Rattle.flashrules.specs.declared.layout.Layout.{Layout}
 use Rattle.gaugerules.specs.Write.{write}
+use Rattle.gaugerules.specs.Supply.{setSupply}
 use Rattle.gaugerules.specs.declared.state.Gauge.{Gauge}
 use Rattle.causerules.specs.History.{Step, writeSteps}
 use Rattle.causerules.specs.Cause.{gives, reasonOf, causeText}
@@ -68,6 +69,10 @@ track l image g n r bytes =
     outcome (tracked (w .answer .error) (w .answer .gauge) (noteAll n (writeSteps l image g (n .line) r bytes)))
     (w .lent)
 
--- what is printed of it
+-- a supply call, of which nothing is noted
+unfoldable pub trackSupply : Layout → ℕ → Gauge → Notes → ℕ → Tracked
+trackSupply l size g n millivolts = let s = setSupply l size g millivolts in tracked (s .error) (s .gauge) n
+
+-- what is printed of either
 unfoldable pub trackedText : Tracked → List ℕ
 trackedText t = causeText (t .error) (t .gauge) (recall (t .notes) (reasonOf (t .error) (t .gauge)))

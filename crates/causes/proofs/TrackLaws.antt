@@ -11,11 +11,13 @@ use Rattle.flashrules.specs.Outcome.{Outcome, outcome}
 use Rattle.flashrules.specs.declared.layout.Layout.{Layout}
 use Rattle.flashrules.proofs.Picks.{on-test}
 use Rattle.gaugerules.specs.Write.{writeByte, writeBytes, callError, write}
+use Rattle.gaugerules.specs.Supply.{setSupply}
 use Rattle.gaugerules.specs.declared.state.Gauge.{Gauge}
 use Rattle.gaugerules.specs.declared.answer.ByteWritten.{ByteWritten}
 use Rattle.gaugerules.specs.declared.answer.Written.{Written}
+use Rattle.gaugerules.specs.declared.answer.Supplied.{Supplied}
 use Rattle.causerules.specs.History.{step, byteSteps, writeSteps}
-use Rattle.causerules.specs.Notes.{note, tracked, track}
+use Rattle.causerules.specs.Notes.{note, tracked, track, trackSupply}
 use Rattle.causerules.specs.declared.notes.Notes.{Notes}
 use Rattle.causerules.specs.declared.notes.Tracked.{Tracked}
 use Rattle.causes.specs.Track.{trackBytes}
@@ -70,3 +72,10 @@ module _ (l : Layout) (image bs : List ℕ) (g : Gauge) (n : Notes) (r e : ℕ) 
   pub tracks-not : (e ≡ 0 → ⊥) → outcome (tracked e g n) image ≡ track l image g n r bs
   unfolding track write writeSteps outcome
   tracks-not q = rw (← p, ne-eqb e 0 q)
+
+-- ---- a supply
+
+pub tracks-supply : (l : Layout) (size : ℕ) (g : Gauge) (n : Notes) (millivolts : ℕ) (s : Supplied) → s ≡ setSupply l size g millivolts
+    → tracked (s .error) (s .gauge) n ≡ trackSupply l size g n millivolts
+unfolding trackSupply
+tracks-supply l size g n millivolts s p = rw p

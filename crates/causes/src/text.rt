@@ -1,4 +1,4 @@
-// The line that is printed of a refused write.
+// The line that is printed of a refused write or supply.
 use crate::notes::recall;
 use crate::reason::reason_of;
 use causerules::notes::Tracked;

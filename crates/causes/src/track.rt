@@ -1,4 +1,4 @@
-// A write whose bytes are noted: run as `gauge::write::write` runs it, byte by byte.
+// A write whose bytes are noted, run as `gauge::write::write` runs it, byte by byte; and a supply.
 use crate::notes::note;
 use causerules::notes::Notes;
 use causerules::notes::Tracked;
@@ -6,12 +6,13 @@ use flashrules::layout::Layout;
 use gauge::write::call_error;
 use gauge::write::write_byte;
 use gaugerules::state::Gauge;
+use supply::set_supply;
 ghost use mathlib.Core.Path.{_≡_};
 ghost use Prim.Native.Nat.{_+_, _≤_};
 ghost use lib.ListN.{length};
 ghost use Rattle.flashrules.specs.Outcome.{outcome};
 ghost use Rattle.gaugerules.specs.Register.{registers};
-ghost use Rattle.causerules.specs.Notes.{track};
+ghost use Rattle.causerules.specs.Notes.{track, trackSupply};
 ghost use Rattle.causes.specs.Track.{trackBytes};
 
 // The bytes from a register on.
@@ -71,6 +72,25 @@ pub fn track(
     Tracked {
         error,
         gauge,
+        notes,
+    }
+}
+
+// Sets the supply, as the line that the notes say. It gives no reason, so nothing is noted.
+pub fn track_supply(
+    layout: Layout,
+    image_len: usize,
+    gauge: Gauge,
+    notes: Notes,
+    millivolts: u16,
+) -> Tracked
+    ensures { λ r. ⌜ r ≡ trackSupply layout «image_len» gauge notes millivolts ⌝ }
+{
+    let supplied = set_supply(layout, image_len, gauge, millivolts);
+    let after = supplied.gauge;
+    Tracked {
+        error: supplied.error,
+        gauge: after,
         notes,
     }
 }

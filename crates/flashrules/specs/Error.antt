@@ -2,9 +2,9 @@
 -- those of document 02; 0 is none.
 use Prim.Native.Nat.{ℕ}
 
--- 1: "n is 0 or r + n above 128"
-abbrev pub invalidSpan : ℕ
-invalidSpan = 1
+-- 1: "n is 0 or r + n above 128"; document 02, C-16, "1 for a supply above 4,500"
+abbrev pub invalidArgument : ℕ
+invalidArgument = 1
 
 -- 2: "register takes no writes"
 abbrev pub readOnly : ℕ
@@ -65,6 +65,10 @@ invalidGauge = 15
 -- 16: document 02, C-14, "Only full access may change keys."
 abbrev pub protectedKeys : ℕ
 protectedKeys = 16
+
+-- 17: document 02, C-16, "17 for a commit on low supply"
+abbrev pub lowSupply : ℕ
+lowSupply = 17
 
 -- 18: document 02, C-11, "layouts differ"
 abbrev pub layoutMismatch : ℕ

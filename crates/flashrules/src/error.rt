@@ -1,8 +1,8 @@
 // Document 01's error numbers ("Numbers of the refusals"), in the order of its table, and behind it
 // those of document 02; 0 is none.
 
-// No count, or a span past the last register.
-pub const INVALID_SPAN: u8 = 1;
+// A transaction without a count or with a span past the last register, or a supply above its range.
+pub const INVALID_ARGUMENT: u8 = 1;
 
 pub const READ_ONLY: u8 = 2;
 
@@ -40,6 +40,9 @@ pub const INVALID_GAUGE: u8 = 15;
 
 // A commit that would change a key, without full access.
 pub const PROTECTED_KEYS: u8 = 16;
+
+// A commit on a supply that is too low for one.
+pub const LOW_SUPPLY: u8 = 17;
 
 // Two images whose layouts have other classes or lengths.
 pub const LAYOUT_MISMATCH: u8 = 18;

@@ -9,12 +9,12 @@ use borrow.Author.Tests.{ne-eqb}
 use Rattle.flashrules.specs.Outcome.{Outcome, outcome}
 use Rattle.flashrules.specs.declared.layout.Layout.{Layout}
 use Rattle.gaugerules.specs.declared.state.Gauge.{Gauge}
-use Rattle.causerules.specs.Notes.{blank, nextLine, track, trackedText}
+use Rattle.causerules.specs.Notes.{blank, nextLine, track, trackSupply, trackedText}
 use Rattle.causerules.specs.declared.notes.Notes.{Notes}
 use Rattle.causerules.specs.declared.notes.Tracked.{Tracked}
-use Rattle.scriptrules.specs.Frame.{Frame, writeFrame, readFrame}
+use Rattle.scriptrules.specs.Frame.{Frame, writeFrame, readFrame, supplyFrame}
 use Rattle.scriptrules.specs.Reply.{maxReply}
-use Rattle.scriptrules.specs.Session.{reportReplies, reportCauses, session, Runner, runner, trackFrame, frameText, afterLine}
+use Rattle.scriptrules.specs.Session.{reportReplies, reportCauses, session, Runner, runner, trackFrame, trackSupplyFrame, frameText, afterLine}
 use Rattle.scriptrules.specs.Run.{Lent, lend, answered, runFrame}
 use Rattle.scriptrules.specs.declared.session.Session.{Session}
 use Rattle.scriptrules.specs.declared.answer.Answered.{Answered}
@@ -30,19 +30,27 @@ next-answered s n e = rw e
 pub read-none : (a : Answered) (s : Session) → a ≡ answered 0 s 0 → a .length ≤ maxReply
 read-none a s p = rw p (omega arith)
 
-module _ (l : Layout) (image : List ℕ) (r : ℕ) (s : Session) where
-  pub write-explained : (bytes buffer image′ buffer′ : List ℕ) (n : Notes) (t : Tracked) (m at : ℕ) → n ≡ nextLine (s .notes)
-      → outcome t image′ ≡ track l image (s .gauge) n r bytes
-      → buffer′ ≡ sets buffer at (trackedText t)
-      → m ≡ length (trackedText t)
-      → outcome (answered 0 (session (t .gauge) (t .notes)) m) (lend image′ buffer′) ≡ runFrame l reportCauses (runner s image) (writeFrame r bytes) buffer at
+module _ (t : Tracked) (m : ℕ) (p : m ≡ length (trackedText t)) where
+  pub tracked-put : answered 0 (session (t .gauge) (t .notes)) m ≡ answered 0 (session (t .gauge) (t .notes)) (length (trackedText t))
+  tracked-put = rw p
+
+  pub tracked-short : m ≤ maxReply
+  tracked-short = rw p (tracked-length t)
+
+-- a is what a frame came to that was noted as t
+module _ (l : Layout) (image : List ℕ) (r : ℕ) (s : Session) (buffer buffer′ : List ℕ) (at : ℕ) (n : Notes) (t : Tracked) (a : Answered)
+    (e : n ≡ nextLine (s .notes)) (h : a ≡ answered 0 (session (t .gauge) (t .notes)) (length (trackedText t))) (q : buffer′ ≡ sets buffer at (trackedText t)) where
+  pub write-explained : (bytes image′ : List ℕ) → outcome t image′ ≡ track l image (s .gauge) n r bytes
+      → outcome a (lend image′ buffer′) ≡ runFrame l reportCauses (runner s image) (writeFrame r bytes) buffer at
   unfolding runFrame frameText afterLine trackFrame outcome
-  write-explained bytes buffer image′ buffer′ n t m at e p q h = rw (← e, ← p, q, h)
+  write-explained bytes image′ p = rw (h, q, ← e, ← p)
 
-  pub write-short : (bytes image′ : List ℕ) (n : Notes) (t : Tracked) (m : ℕ) → outcome t image′ ≡ track l image (s .gauge) n r bytes → m ≡ length (trackedText t)
-      → m ≤ maxReply
-  write-short bytes image′ n t m p h = rw h (tracked-length t)
+  pub supply-explained : (millivolts : ℕ) → t ≡ trackSupply l (length image) (s .gauge) n millivolts
+      → outcome a (lend image buffer′) ≡ runFrame l reportCauses (runner s image) (supplyFrame millivolts) buffer at
+  unfolding runFrame frameText afterLine trackSupplyFrame outcome
+  supply-explained millivolts p = rw (h, q, ← e, ← p)
 
+module _ (l : Layout) (image : List ℕ) (r : ℕ) (s : Session) where
   pub read-explained : (report : ℕ) (buffer : List ℕ) (a : Answered) (n at : ℕ) → report ≡ reportCauses
       → a ≡ answered 0 (session (s .gauge) (nextLine (s .notes))) 0
       → outcome a (lend image buffer) ≡ runFrame l report (runner s image) (readFrame r n) buffer at

@@ -14,11 +14,13 @@ use Rattle.flashrules.specs.declared.layout.Layout.{Layout}
 use Rattle.gaugerules.specs.Register.{registers}
 use Rattle.gaugerules.specs.Write.{write}
 use Rattle.gaugerules.specs.Read.{read}
+use Rattle.gaugerules.specs.Supply.{setSupply}
 use Rattle.gaugerules.specs.Script.{reply, afterCall}
 use Rattle.gaugerules.specs.declared.state.Gauge.{Gauge}
 use Rattle.gaugerules.specs.declared.answer.Written.{Written}
 use Rattle.gaugerules.specs.declared.answer.Reading.{Reading}
-use Rattle.scriptrules.specs.Frame.{writeFrame, readFrame}
+use Rattle.gaugerules.specs.declared.answer.Supplied.{Supplied}
+use Rattle.scriptrules.specs.Frame.{writeFrame, readFrame, supplyFrame}
 use Rattle.scriptrules.specs.Reply.{replyText, afterFrame}
 use Rattle.scriptrules.specs.Session.{reportReplies, session, runner, frameText, afterLine}
 use Rattle.scriptrules.specs.Run.{lend, answered, runFrame}
@@ -61,3 +63,10 @@ module _ (l : Layout) (image : List ℕ) (r : ℕ) where
         let m : length (hexLine (a .error ∷ take (a .accepted) v)) ≡ 3 + 2 * a .accepted
         = line-length (a .error ∷ take (a .accepted) v) ∙ rw length-take (omega arith) in
         rw (← p, e, sub-zero, ← m)
+
+module _ (l : Layout) (image : List ℕ) (s : Session) where
+  pub supply-answered : (buffer buffer′ : List ℕ) (x : Supplied) (millivolts at : ℕ) → x ≡ setSupply l (length image) (s .gauge) millivolts
+      → buffer′ ≡ sets buffer at (hexLine (x .error ∷ []))
+      → outcome (answered 0 (session (x .gauge) (s .notes)) 3) (lend image buffer′) ≡ runFrame l reportReplies (runner s image) (supplyFrame millivolts) buffer at
+  unfolding runFrame frameText afterLine replyText afterFrame reply afterCall outcome
+  supply-answered buffer buffer′ x millivolts at p e = rw (← p, e)

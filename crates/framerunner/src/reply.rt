@@ -9,6 +9,7 @@ use hextext::encode_byte;
 use hextext::encode_line;
 use scriptrules::answer::Answered;
 use scriptrules::session::Session;
+use supply::set_supply;
 ghost use mathlib.Core.Path.{_≡_};
 ghost use mathlib.Core.List.{_∷_};
 ghost use Prim.Native.Nat.{_%_, _≤_};
@@ -17,7 +18,7 @@ ghost use lib.Seq.{sets};
 ghost use Rattle.hextext.specs.Hex.{hexLine};
 ghost use Rattle.flashrules.specs.Outcome.{outcome};
 ghost use Rattle.gaugerules.specs.Read.{read};
-ghost use Rattle.scriptrules.specs.Frame.{writeFrame, readFrame};
+ghost use Rattle.scriptrules.specs.Frame.{writeFrame, readFrame, supplyFrame};
 ghost use Rattle.scriptrules.specs.Reply.{maxReply};
 ghost use Rattle.scriptrules.specs.Session.{reportReplies, runner};
 ghost use Rattle.scriptrules.specs.Run.{lend, runFrame};
@@ -104,5 +105,31 @@ pub(crate) fn reply_read(
         error: 0,
         session,
         length: 3 + 2 * n,
+    }
+}
+
+// A supply frame is run, and replied to.
+pub(crate) fn reply_supply(
+    layout: Layout,
+    image: &[u8],
+    session: Session,
+    millivolts: u16,
+    buffer: &mut [u8],
+    at: usize,
+) -> Answered
+    ensures { λ r. ⌜ outcome r (lend (now (image .entry)) (now (buffer .exit))) ≡ runFrame layout reportReplies (runner session (now (image .entry))) (supplyFrame millivolts) (now (buffer .entry)) at ⌝ }
+    ensures { λ r. ⌜ r .length ≤ maxReply ⌝ }
+{
+    let supplied = set_supply(layout, image.len(), session.gauge, millivolts);
+    encode_line(&[supplied.error], buffer, at);
+    let after = supplied.gauge;
+    let notes = session.notes;
+    Answered {
+        error: 0,
+        session: Session {
+            gauge: after,
+            notes,
+        },
+        length: 3,
     }
 }

@@ -1,7 +1,7 @@
 -- Laws of a write: one byte by its register, the loop over the bytes, and the checks before it.
 use Prim.Native.Nat.{ℕ, _+_, _*_, _≤_, _<_}
 use mathlib.Core.Path.{_≡_, sym, _∙_, subst}
-use mathlib.Core.Bool.{true, cond}
+use mathlib.Core.Bool.{Bool, true, cond}
 use mathlib.Core.List.{List, _∷_}
 use native.Mathlib.Numerals.{add-one}
 use native.Mathlib.Omega.{arith}
@@ -12,6 +12,7 @@ use mir.Syntax.{w64}
 use mir.Val.{Fits}
 use borrow.Author.Tests.{eq-eqb, ne-eqb, lt-ltb}
 use Rattle.flashrules.specs.Error.{readOnly}
+use Rattle.flashrules.specs.Refusal.{firstError}
 use Rattle.flashrules.specs.Outcome.{Outcome, outcome}
 use Rattle.flashrules.specs.Lookup.{blockSize}
 use Rattle.flashrules.specs.declared.layout.Layout.{Layout}
@@ -19,7 +20,7 @@ use Rattle.gaugerules.specs.State.{withLow}
 use Rattle.gaugerules.specs.Register.{registers, registerOf}
 use Rattle.gaugerules.specs.Word.{word, obey}
 use Rattle.gaugerules.specs.Transfer.{accept, refuse, setClass, selectBlock, edit, setControl}
-use Rattle.gaugerules.specs.Write.{commit, writeAt, writeByte, written, writeBytes, callError, write}
+use Rattle.gaugerules.specs.Write.{commit, writeAt, writeByte, written, writeBytes, badSpan, entryTests, callError, write}
 use Rattle.gaugerules.specs.declared.state.Gauge.{Gauge}
 use Rattle.gaugerules.specs.declared.register.Register.{Register}
 use Rattle.gaugerules.specs.declared.answer.ByteWritten.{ByteWritten}
@@ -128,6 +129,11 @@ module _ (l : Layout) (image to : List ℕ) (g : Gauge) (at b i c : ℕ) (s : By
 
 pub span-long : (r n : ℕ) → registers < n → true ≡ ltb registers (r + n)
 span-long r n p = sym (lt-ltb registers (r + n) (omega arith))
+
+pub calls-by : (l : Layout) (size : ℕ) (g : Gauge) (r n e : ℕ) (bad : Bool) → bad ≡ badSpan r n → e ≡ firstError (entryTests l size g bad)
+    → e ≡ callError l size g r n
+unfolding callError
+calls-by l size g r n e bad p q = rw p at q
 
 module _ (l : Layout) (image bs : List ℕ) (g : Gauge) (r e : ℕ) (p : e ≡ callError l (length image) g r (length bs)) where
   pub writes-span : e ≡ 0 → r + length bs ≤ registers

@@ -8,9 +8,6 @@ use blocktransfer::select_block;
 use blocktransfer::set_class;
 use blocktransfer::set_control;
 use controlword::take_high;
-use flashrules::error::INVALID_GAUGE;
-use flashrules::error::INVALID_SPAN;
-use flashrules::error::MALFORMED;
 use flashrules::error::READ_ONLY;
 use flashrules::layout::Layout;
 use gaugerules::answer::ByteWritten;
@@ -18,8 +15,7 @@ use gaugerules::answer::Written;
 use gaugerules::register::REGISTERS;
 use gaugerules::register::Register;
 use gaugerules::state::Gauge;
-use gaugestate::valid::valid;
-use layout::valid::fits;
+use gaugestate::entry::entry_error;
 ghost use mathlib.Core.Path.{_≡_};
 ghost use Prim.Native.Nat.{_+_, _≤_};
 ghost use lib.ListN.{length};
@@ -98,16 +94,7 @@ fn bad_span(register: u8, count: usize) -> bool
 pub fn call_error(layout: Layout, image_len: usize, gauge: Gauge, register: u8, count: usize) -> u8
     ensures { λ r. ⌜ r ≡ callError layout «image_len» gauge register count ⌝ }
 {
-    if fits(layout, image_len) {
-        if valid(layout, gauge) {
-            if bad_span(register, count) {
-                return INVALID_SPAN;
-            }
-            return 0;
-        }
-        return INVALID_GAUGE;
-    }
-    MALFORMED
+    entry_error(layout, image_len, gauge, bad_span(register, count))
 }
 
 // The bytes from a register on.

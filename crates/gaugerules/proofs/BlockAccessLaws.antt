@@ -22,7 +22,7 @@ use Rattle.flashrules.proofs.Laws.{block-inside, loaded-length, store-edited}
 use Rattle.flashrules.proofs.PartLaws.{part-loaded}
 use Rattle.flashrules.proofs.RefusalLaws.{error-behind}
 use Rattle.flashrules.proofs.Picks.{on-test}
-use Rattle.gaugerules.specs.State.{fullAccess, controlFlash, isSealed, isFullAccess, generalAccess, loadedOf, withClass, withWindow, unload}
+use Rattle.gaugerules.specs.State.{fullAccess, controlFlash, isSealed, isFullAccess, hasLowSupply, generalAccess, loadedOf, withClass, withWindow, unload}
 use Rattle.gaugerules.specs.Keys.{keyBytes}
 use Rattle.gaugerules.specs.Register.{dataFlashClass, blockData, blockDataChecksum, blockDataControl, registers, registerOf}
 use Rattle.gaugerules.specs.Transfer.{accept, setClass, loadBlock, selectBlock, isProtected, editError, edit, changesKeys, commitError, committed, setControl}
@@ -169,7 +169,8 @@ runs-edits l image (b ∷ bs) g o n e h =
     ∙ ap (λ (r : ℕ). writeBytes l image c r (n + 1) 0 bs) next ∙ ih
     ∙ ap (λ (j : ℕ). outcome (written 0 j 0 (withWindow g (sets (set (g .window) o b) (suc o) bs))) image) m
 
-module _ (l : Layout) (image : List ℕ) (g : Gauge) (i b s k : ℕ) (good : Good l image g) (a : generalAccess g ≡ true) (hi : i ≤ maxByte) (hb : b ≤ maxByte)
+module _ (l : Layout) (image : List ℕ) (g : Gauge) (i b s k : ℕ) (good : Good l image g) (a : generalAccess g ≡ true) (supplied : hasLowSupply g ≡ false)
+    (hi : i ≤ maxByte) (hb : b ≤ maxByte)
     (p : findBlock l (length image) i b ≡ Lookup.Found s k) (o : ℕ) (bs : List ℕ) (bytes : Bytes bs) (some : 1 ≤ length bs) (end : o + length bs ≤ k)
     (may : MayLeave l image g (sets image (s + o) bs)) where
   abbrev loaded : Gauge
@@ -216,7 +217,7 @@ module _ (l : Layout) (image : List ℕ) (g : Gauge) (i b s k : ℕ) (good : Goo
   commits-edited : write l image edited blockDataChecksum (checksum (edited .window) ∷ []) ≡ outcome (written 0 1 (differing image after) edited) after
   unfolding writeBytes writeByte writeAt registerOf commit commitError committed isProtected outcome
   commits-edited =
-      rw (runs-whole l image edited blockDataChecksum (checksum (edited .window) ∷ []) edited-good (omega arith) (omega arith), is-loaded, not-sealed g a, eq-eqb (checksum (edited .window)) (checksum (edited .window)) refl, free)
+      rw (runs-whole l image edited blockDataChecksum (checksum (edited .window) ∷ []) edited-good (omega arith) (omega arith), is-loaded, not-sealed g a, eq-eqb (checksum (edited .window)) (checksum (edited .window)) refl, free, supplied)
       (ap (λ (to : List ℕ). outcome (written 0 1 (0 + differing image to) edited) to) (store-edited l image i b s k p o bs end)
       ∙ ap (λ (n : ℕ). outcome (written 0 1 n edited) after) (zero-add (differing image after)))
 
@@ -228,6 +229,7 @@ module _ (l : Layout) (image : List ℕ) (g : Gauge) (i b s k : ℕ) (good : Goo
         commit = commits-edited;
         mode = refl;
         access = a;
+        supply = refl;
         good = goes-good l image edited edited blockDataChecksum 1 (differing image after) (checksum (edited .window) ∷ []) after
             (one-byte (checksum (edited .window)) (omega arith)) edited-good commits-edited;
       }

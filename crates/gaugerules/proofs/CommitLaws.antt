@@ -6,7 +6,7 @@ use mathlib.Core.Bool.{true, false, true≢false}
 use mathlib.Core.List.{List}
 use lib.Dec.{eqb}
 use lib.ListN.{length}
-use borrow.Author.Tests.{eqb-true, eqb-false}
+use borrow.Author.Tests.{eqb-true, eqb-false, eq-eqb, not-true}
 use Rattle.checksum.specs.Checksum.{checksum}
 use Rattle.flashrules.specs.Outcome.{outcome}
 use Rattle.flashrules.specs.Choice.{differing}
@@ -15,8 +15,8 @@ use Rattle.flashrules.specs.Layout.{fits}
 use Rattle.flashrules.specs.Lookup.{findBlock}
 use Rattle.flashrules.specs.declared.layout.Layout.{Layout}
 use Rattle.flashrules.proofs.Laws.{block-inside, exists-found, store-length, store-here, store-outside}
-use Rattle.flashrules.proofs.Picks.{on-test, on-answer}
-use Rattle.gaugerules.specs.State.{loadedOf, noneLoaded}
+use Rattle.flashrules.proofs.Picks.{and-first, and-rest, on-test, on-answer}
+use Rattle.gaugerules.specs.State.{hasLowSupply, loadedOf, noneLoaded}
 use Rattle.gaugerules.specs.Valid.{loadedValid}
 use Rattle.gaugerules.specs.Register.{registerOf}
 use Rattle.gaugerules.specs.Transfer.{byteWritten, refuse, isProtected, changesKeys, commitError, committed}
@@ -24,19 +24,26 @@ use Rattle.gaugerules.specs.Write.{commit, writeAt, writeByte}
 use Rattle.gaugerules.specs.Laws.{commits, Committed, CommitRule}
 use Rattle.gaugerules.specs.declared.state.Gauge.{Gauge}
 use Rattle.gaugerules.specs.declared.state.Loaded.{Loaded}
-use Rattle.gaugerules.proofs.LoadedLaws.{committable}
+use Rattle.gaugerules.proofs.LoadedLaws.{none-holds, committable, matches, leaves-keys, well-supplied}
 use Rattle.gaugerules.proofs.ValidLaws.{Valid, valid-parts}
 
 -- the refusals of a byte at 0x60 are what `commits` asks, so it is accepted exactly if it commits
 commit-error : (l : Layout) (image : List ℕ) (g : Gauge) (byte : ℕ) → eqb (commitError l image g byte) 0 ≡ commits l image g byte
 unfolding commitError
 commit-error l image g byte =
-    on-test (noneLoaded g) (λ p. rw p)
-    (λ p.
-    on-test (isProtected g) (λ q. rw (p, q))
-    (λ q.
-    on-test (changesKeys l image g) (λ k. on-test (eqb byte (checksum (g .window))) (λ e. rw (p, q, k, e)) (λ e. rw (p, q, k, e)))
-    (λ k. on-test (eqb byte (checksum (g .window))) (λ e. rw (p, q, k, e)) (λ e. rw (p, q, k, e)))))
+    on-test (eqb (commitError l image g byte) 0)
+    (λ z.
+    let e = eqb-true (commitError l image g byte) 0 z in
+    let none = none-holds l image g byte e in
+    let free : (noneLoaded g ≡ false) × (isProtected g ≡ false) = search none in
+    rw (z, free .0, free .1, eq-eqb byte (checksum (g .window)) (matches l image g byte e), leaves-keys l image g byte e, well-supplied l image g byte e))
+    (λ z. on-test (commits l image g byte) (λ c. absurd (eqb-false (commitError l image g byte) 0 z (commits-free c))) (λ c. rw (z, c)))
+  where
+    commits-free : commits l image g byte ≡ true → commitError l image g byte ≡ 0
+    commits-free c =
+        let t : (noneLoaded g ≡ false) × (isProtected g ≡ false) × (byte ≡ checksum (g .window)) × (changesKeys l image g ≡ false)
+        × (hasLowSupply g ≡ false) = search (and-first, and-rest, not-true, eqb-true) in
+        rw (t .0, t .1, eq-eqb byte (checksum (g .window)) (t .2), t .3, t .4)
 
 module _ (l : Layout) (image : List ℕ) (g : Gauge) (byte : ℕ) where
   -- the loaded block of a valid gauge exists, so the lookup finds it, and what is found has bytes

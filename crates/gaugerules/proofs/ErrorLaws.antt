@@ -9,7 +9,7 @@ use lib.Dec.{eqb, leb, ltb}
 use lib.ListN.{length}
 use borrow.Author.Tests.{ne-eqb, le-leb, lt-leb}
 use Rattle.checksum.specs.Checksum.{checksum}
-use Rattle.flashrules.specs.Error.{unknownBlock, protectedKeys}
+use Rattle.flashrules.specs.Error.{unknownBlock, protectedKeys, lowSupply}
 use Rattle.flashrules.specs.Refusal.{firstError}
 use Rattle.flashrules.specs.Outcome.{outcome}
 use Rattle.flashrules.specs.Layout.{infoClass, classes, locate, fits}
@@ -21,7 +21,7 @@ use Rattle.flashrules.proofs.LayoutLaws.{fits-parts}
 use Rattle.flashrules.proofs.LookupLaws.{locate-refused}
 use Rattle.flashrules.proofs.RefusalLaws.{first-in}
 use Rattle.flashrules.proofs.Picks.{on-test, on-answer}
-use Rattle.gaugerules.specs.State.{controlInfo, infoBlocks, isSealed, generalAccess, noneLoaded, load}
+use Rattle.gaugerules.specs.State.{controlInfo, infoBlocks, isSealed, hasLowSupply, generalAccess, noneLoaded, load}
 use Rattle.gaugerules.specs.Register.{blockData, registerOf}
 use Rattle.gaugerules.specs.Transfer.{accept, refuse, setClass, loadBlock, selectsInfo, selectBlock, isProtected, changesKeys, editError, edit, commitError, setControl}
 use Rattle.gaugerules.specs.Write.{commit, writeAt, writeByte}
@@ -119,8 +119,11 @@ module _ (l : Layout) (image : List ℕ) (g : Gauge) (byte : ℕ) (f : fits l (l
       (λ n.
       on-test (isProtected g) (λ p. rw (n, p))
       (λ p.
-      on-test (changesKeys l image g) (λ k. on-test (eqb byte (checksum (g .window))) (λ s. rw (n, p, k, s)) (λ s. rw (n, p, k, s)))
-      (λ k. on-test (eqb byte (checksum (g .window))) (λ s. rw (n, p, k, s)) (λ s. rw (n, p, k, s)))))
+      on-test (eqb byte (checksum (g .window)))
+      (λ s.
+      on-test (changesKeys l image g) (λ k. rw (n, p, s, k))
+      (λ k. on-test (hasLowSupply g) (λ u. rw (n, p, s, k, u)) (λ u. rw (n, p, s, k, u))))
+      (λ s. rw (n, p, s))))
 
   at-other : (r : ℕ) → 0x01 < r → (r < 0x3E) ⊎ (0x61 < r) → 2 ≡ rows r
   at-other r h =
@@ -141,7 +144,7 @@ pub byte-errors : ByteErrors
 byte-errors l image g r byte f = rw (byte-error l image g r byte f) any
   where
     Few : ℕ → Type 0
-    Few e = (e ≡ 0) ⊎ (((2 ≤ e) × (e ≤ 9)) ⊎ (e ≡ protectedKeys))
+    Few e = (e ≡ 0) ⊎ (((2 ≤ e) × (e ≤ 9)) ⊎ ((e ≡ protectedKeys) ⊎ (e ≡ lowSupply)))
 
     row : {e : ℕ} → 2 ≤ e → e ≤ 9 → Few e
     row low high = inr (inl (low, high))
@@ -160,7 +163,7 @@ byte-errors l image g r byte f = rw (byte-error l image g r byte f) any
                   row (omega arith) (omega arith),
                   (
                     row (omega arith) (omega arith),
-                    (row (omega arith) (omega arith), (row (omega arith) (omega arith), (inr (inr refl), tt))),
+                    (row (omega arith) (omega arith), (row (omega arith) (omega arith), (inr (inr (inl refl)), (inr (inr (inr refl)), tt)))),
                   ),
                 ),
               ),

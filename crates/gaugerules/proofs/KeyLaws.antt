@@ -6,7 +6,7 @@ use mathlib.Core.Bool.{Bool, true, false, cond, not, true≢false}
 use mathlib.Core.List.{List, [], _∷_, _++_}
 use native.Mathlib.Omega.{arith}
 use lib.Dec.{eqb}
-use lib.ListN.{getD, take, drop}
+use lib.ListN.{length, getD, take, drop}
 use borrow.Author.Tests.{eqb-true, eq-eqb, ne-eqb}
 use Rattle.flashrules.specs.Image.{maxByte}
 use Rattle.flashrules.specs.declared.layout.Layout.{Layout}
@@ -16,11 +16,12 @@ use Rattle.gaugerules.specs.State.{sealed, bootSealed, noWord, isSealed,
 use Rattle.gaugerules.specs.Valid.{maxWord}
 use Rattle.gaugerules.specs.Keys.{unsealKey, keyLength, keys, asSent, isKey}
 use Rattle.gaugerules.specs.Word.{word, statusWord, sealWord, resetWord, waits, opened, keyWord, withStatus, obey}
-use Rattle.gaugerules.specs.Script.{Device, device, Call, toWrite, toRead, afterCall, unseals, obeyed, mayBeKey, entersKey}
+use Rattle.gaugerules.specs.Script.{Device, device, Call, toWrite, toRead, toSupply, afterCall, unseals, obeyed, mayBeKey, entersKey}
 use Rattle.gaugerules.specs.Laws.{KeyEqual}
 use Rattle.gaugerules.specs.Noninterference.{CallBytes, ByKeyAlone, UnsealsByKey}
 use Rattle.gaugerules.specs.declared.state.Gauge.{Gauge}
 use Rattle.gaugerules.proofs.LockLaws.{Lock, lock, writes}
+use Rattle.gaugerules.proofs.SupplyCases.{supply-lock}
 
 pub key-equal : KeyEqual
 unfolding isKey
@@ -126,6 +127,8 @@ calls l d past v (toWrite r bytes) s =
     writes l (d .image) (λ b. b ≤ maxByte) (λ g. Sealed (lock g) past) (Becomes l (d .image) past) (with-low l (d .image) past) (no-word l (d .image) past)
     (one-word l (d .image) past) (d .gauge) v r bytes s
 calls l d past v (toRead r n buffer) s = no-word l (d .image) past (d .gauge) v
+calls l d past v (toSupply millivolts) s =
+    rw (supply-lock l (length (d .image)) (d .gauge) millivolts) (no-word l (d .image) past (d .gauge) v)
 
 unseals-is : (l : Layout) (d : Device) (c : Call) → isSealed (d .gauge) ≡ true → unseals l d c ≡ not (isSealed (afterCall l d c .gauge))
 unfolding unseals

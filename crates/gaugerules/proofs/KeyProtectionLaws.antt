@@ -30,7 +30,7 @@ use Rattle.gaugerules.specs.Register.{controlHigh, blockDataChecksum, re
 use Rattle.gaugerules.specs.Keys.{keyBlock, keysEnd, keyBytes}
 use Rattle.gaugerules.specs.Transfer.{changesKeys, committed}
 use Rattle.gaugerules.specs.Write.{writeAt, writeByte, writeBytes, callError, write}
-use Rattle.gaugerules.specs.Script.{Device, device, Call, toWrite, toRead, afterCall, afterCalls, unseals}
+use Rattle.gaugerules.specs.Script.{Device, device, Call, toWrite, toRead, toSupply, afterCall, afterCalls, unseals}
 use Rattle.gaugerules.specs.Noninterference.{Agree, Kept}
 use Rattle.gaugerules.specs.KeyProtection.{KeyChange, neverFullAccess, KeysKept}
 use Rattle.gaugerules.specs.declared.state.Gauge.{Gauge}
@@ -205,6 +205,7 @@ pub call-keeps : (l : Layout) (d : Device) (c : Call) → isFullAccess (d .gauge
 unfolding afterCall
 call-keeps l d (toWrite r bytes) a = write-keeps l (d .image) (d .gauge) r bytes a
 call-keeps l d (toRead r n buffer) a = refl
+call-keeps l d (toSupply millivolts) a = refl
 
 pub keys-kept : KeysKept
 unfolding afterCalls

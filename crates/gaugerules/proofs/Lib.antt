@@ -5,11 +5,14 @@ pub mod BlockAccessLaws
 pub mod ByteCases
 pub mod RunLaws
 pub mod ByteLaws
+pub mod KeptLaws
 pub mod LockLaws
+pub mod SupplyCases
 pub mod KeyLaws
 pub mod KeyProtectionLaws
 pub mod WithoutKeyLaws
 pub mod ValidLaws
+pub mod SupplyLaws
 pub mod WindowLaws
 pub mod CommitLaws
 pub mod WholeWrite

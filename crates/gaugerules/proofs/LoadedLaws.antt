@@ -14,7 +14,7 @@ use Rattle.flashrules.specs.Image.{maxByte}
 use Rattle.flashrules.specs.declared.layout.Layout.{Layout}
 use Rattle.flashrules.proofs.Laws.{no-error}
 use Rattle.flashrules.proofs.Picks.{and-first, and-rest}
-use Rattle.gaugerules.specs.State.{noBlock, infoBlocks, packed, loadedOf, noneLoaded, isLoaded, load}
+use Rattle.gaugerules.specs.State.{noBlock, infoBlocks, hasLowSupply, packed, loadedOf, noneLoaded, isLoaded, load}
 use Rattle.gaugerules.specs.Transfer.{selectsInfo, isProtected, editTests, editError, changesKeys, commitTests, commitError}
 use Rattle.gaugerules.specs.declared.state.Gauge.{Gauge}
 use Rattle.gaugerules.specs.declared.state.Loaded.{Loaded}
@@ -59,9 +59,9 @@ unfolding editError
 editable g e = let t = no-error (editTests g) (omega arith, (omega arith, tt)) .0 e in is-loaded g (t .0) (t .1 .0)
 
 module _ (l : Layout) (image : List ℕ) (g : Gauge) (byte : ℕ) (e : commitError l image g byte ≡ 0) where
-  none-holds : NoneHolds (commitTests l image g byte)
+  pub none-holds : NoneHolds (commitTests l image g byte)
   unfolding commitError
-  none-holds = no-error (commitTests l image g byte) (omega arith, (omega arith, (omega arith, (omega arith, tt)))) .0 e
+  none-holds = no-error (commitTests l image g byte) (omega arith, (omega arith, (omega arith, (omega arith, (omega arith, tt))))) .0 e
 
   pub committable : Editable g
   committable = is-loaded g (none-holds .0) (none-holds .1 .0)
@@ -71,3 +71,6 @@ module _ (l : Layout) (image : List ℕ) (g : Gauge) (byte : ℕ) (e : commitErr
 
   pub leaves-keys : changesKeys l image g ≡ false
   leaves-keys = search none-holds
+
+  pub well-supplied : hasLowSupply g ≡ false
+  well-supplied = search none-holds

@@ -1,7 +1,7 @@
 -- The lock of a gauge: what decides which words open it. Only bytes at 0x00 and 0x01 touch it, and
 -- a write makes one word at most, since the register after 0x01 takes no write; so a law of writes
 -- goes by the word that each makes.
-use Prim.Native.Nat.{ℕ, _+_, _-_, _≤_, _<_}
+use Prim.Native.Nat.{ℕ, _+_, _≤_, _<_}
 use mathlib.Core.Path.{_≡_, refl, _∙_}
 use mathlib.Core.Bool.{false}
 use mathlib.Core.List.{List, [], _∷_}
@@ -10,21 +10,17 @@ use lib.Dec.{eqb}
 use lib.ListN.{length, getD, take}
 use borrow.Author.Tests.{ne-eqb, eqb-true, eqb-false}
 use Rattle.flashrules.specs.Outcome.{Outcome, outcome}
-use Rattle.flashrules.specs.Layout.{infoClass}
 use Rattle.flashrules.specs.declared.layout.Layout.{Layout}
 use Rattle.flashrules.proofs.Picks.{on-test}
 use Rattle.gaugerules.specs.State.{withLow}
 use Rattle.gaugerules.specs.Register.{controlLow, controlHigh, registerOf}
 use Rattle.gaugerules.specs.Word.{word, obey}
-use Rattle.gaugerules.specs.Transfer.{accept, loadBlock}
+use Rattle.gaugerules.specs.Transfer.{accept}
 use Rattle.gaugerules.specs.Write.{writeAt, writeByte, writeBytes, callError, write}
 use Rattle.gaugerules.specs.Script.{made}
 use Rattle.gaugerules.specs.declared.state.Gauge.{Gauge}
-use Rattle.gaugerules.specs.declared.register.Register.{Register}
-use Rattle.gaugerules.specs.declared.answer.ByteWritten.{ByteWritten}
 use Rattle.gaugerules.specs.declared.answer.Written.{Written}
-use Rattle.gaugerules.proofs.RegisterLaws.{on-register}
-use Rattle.gaugerules.proofs.ByteCases.{on-class, on-control, on-edit, on-load, on-select, on-commit}
+use Rattle.gaugerules.proofs.KeptLaws.{Untouched, byte-keeps-part}
 use Rattle.gaugerules.proofs.RunLaws.{goes-on, ends-after-word}
 
 -- what a word is obeyed by, beside the keys of the image
@@ -42,23 +38,11 @@ lock g = record { mode = g .mode; boot = g .boot; low = g .low; pending = g .pen
 not-control : (r : ℕ) → controlHigh < r → (eqb r controlLow ≡ false) × (eqb r controlHigh ≡ false)
 not-control r h = (ne-eqb r controlLow (λ e. omega arith), ne-eqb r controlHigh (λ e. omega arith))
 
-module _ (l : Layout) (image : List ℕ) (g : Gauge) (byte : ℕ) where
-  abbrev Keeps : ByteWritten → Type 0
-  Keeps s = lock (s .gauge) ≡ lock g
+lock-untouched : Untouched lock
+lock-untouched = record { class = λ g i. refl; control = λ g x. refl; load = λ g byte i b w. refl; window = λ g w. refl }
 
-  load-keeps : (i b : ℕ) → Keeps (loadBlock l image g byte i b)
-  load-keeps i b = on-load Keeps g byte l image i b (λ s k p. refl) (λ e. refl)
-
-  pub byte-keeps : (r : ℕ) → controlHigh < r → lock (writeByte l image g r byte .answer .gauge) ≡ lock g
-  unfolding writeByte writeAt outcome
-  byte-keeps r h =
-      on-register (λ (k : Register). lock (writeAt k l image g byte .answer .gauge) ≡ lock g) r (λ e. absurd (omega arith)) (λ e. absurd (omega arith))
-      (λ _. on-class Keeps g byte refl (λ _. refl))
-      (λ _. on-select Keeps g byte l image (λ _. load-keeps (g .class) byte) (λ _ _. load-keeps infoClass (byte - 1)) refl)
-      (λ k _ _. on-edit Keeps g byte k (λ _. refl) refl)
-      (λ _. on-commit (λ (s : Outcome ByteWritten (List ℕ)). lock (s .answer .gauge) ≡ lock g) l image g byte (λ _. refl) refl)
-      (λ _. on-control Keeps g byte refl (λ _ _. refl) refl)
-      (λ _ _. refl)
+pub byte-keeps : (l : Layout) (image : List ℕ) (g : Gauge) (byte r : ℕ) → controlHigh < r → lock (writeByte l image g r byte .answer .gauge) ≡ lock g
+byte-keeps l image g byte r h = byte-keeps-part lock lock-untouched l image g byte r (λ e. absurd (omega arith)) (λ e. absurd (omega arith))
 
 -- so does a run that begins above them, since its registers only grow
 pub run-keeps : (l : Layout) (bs image : List ℕ) (g : Gauge) (r n c : ℕ) → controlHigh < r → lock (writeBytes l image g r n c bs .answer .gauge) ≡ lock g

@@ -31,7 +31,8 @@ use Rattle.gaugerules.specs.Transfer.{byteWritten, accept, refuse, setCl
 use Rattle.gaugerules.specs.Transfer.{changesKeys, commitError, committed, setControl}
 use Rattle.gaugerules.specs.Write.{commit, writeAt, writeByte, written, writeBytes, callError, write}
 use Rattle.gaugerules.specs.Read.{read}
-use Rattle.gaugerules.specs.Script.{Device, device, Call, toWrite, toRead, reply, afterCall, unseals}
+use Rattle.gaugerules.specs.Supply.{setSupply}
+use Rattle.gaugerules.specs.Script.{Device, device, Call, toWrite, toRead, toSupply, reply, afterCall, unseals}
 use Rattle.gaugerules.specs.Noninterference.{Agree, Kept, Indistinguishable, SealedNoninterference, Noninterference}
 use Rattle.gaugerules.specs.declared.state.Gauge.{Gauge}
 use Rattle.gaugerules.specs.declared.state.Loaded.{Loaded}
@@ -43,6 +44,7 @@ use Rattle.gaugerules.proofs.LoadedLaws.{load-view, info-picked, Editab
 use Rattle.gaugerules.proofs.ByteCases.{on-edit, on-load}
 use Rattle.gaugerules.proofs.RunLaws.{goes-on, stops, ends-after-word, is-control-high}
 use Rattle.gaugerules.proofs.ValidLaws.{valid-parts, power-on-valid}
+use Rattle.gaugerules.proofs.SupplyCases.{on-supply}
 use Rattle.gaugerules.proofs.SameLayouts.{same-reply, same-after}
 
 -- ---- the gauge: sealed, and no block is loaded but a manufacturer info block
@@ -185,6 +187,12 @@ module _ (g : Gauge) (byte : ℕ) (q : Quiet g) where
   loaded-info : Editable g → InfoBlock (loadedOf (g .loaded))
   loaded-info e =
       ⊎-elim (λ n. absurd (none-not-block (e .class) (e .block) (sym n ∙ e .loaded))) (λ (i : InfoBlock (loadedOf (g .loaded))). i) (q .info)
+
+-- ---- a supply call
+
+supply-quiet : (l : Layout) (size : ℕ) (g : Gauge) (millivolts : ℕ) → Quiet g → Quiet (setSupply l size g millivolts .gauge)
+supply-quiet l size g millivolts q =
+    on-supply l size g millivolts (λ s. Quiet (s .gauge)) (λ _. record { is-sealed = q .is-sealed; info = q .info; whole = q .whole }) (λ e. q)
 
 -- ---- a store of one window into one info block of two images
 
@@ -427,6 +435,9 @@ module _ (l : Layout) (start₁ start₂ : List ℕ) where
       rw (w .is₁, w .is₂) (refl, v .agree, v .kept₁, v .kept₂, script cs (w .answer .gauge) (w .image₁) (w .image₂) (w .quiet) v)
   script (toRead r n buffer ∷ cs) g image₁ image₂ q t = λ u₁ u₂.
       (rw (read-same l g image₁ image₂ r n buffer (same-length t)), t .agree, t .kept₁, t .kept₂, script cs g image₁ image₂ q t)
+  script (toSupply millivolts ∷ cs) g image₁ image₂ q t = λ u₁ u₂.
+      let s = setSupply l (length image₁) g millivolts in
+      rw (← same-length t) (refl, t .agree, t .kept₁, t .kept₂, script cs (s .gauge) image₁ image₂ (supply-quiet l (length image₁) g millivolts q) t)
 
 -- ---- two layouts that mean the same
 

@@ -20,8 +20,9 @@ use Rattle.gaugerules.specs.Word.{keyWord, obey}
 use Rattle.gaugerules.specs.Transfer.{loadBlock, selectBlock, changesKeys, committed, commitError}
 use Rattle.gaugerules.specs.Write.{commit, writeAt, writeByte, written, writeBytes, callError, write}
 use Rattle.gaugerules.specs.Read.{readError, read}
-use Rattle.gaugerules.specs.Script.{Device, Call, toWrite, toRead, reply, afterCall}
-use Rattle.gaugerules.specs.Laws.{SameValid, SameWrite, SameRead}
+use Rattle.gaugerules.specs.Supply.{supplyError, setSupply}
+use Rattle.gaugerules.specs.Script.{Device, Call, toWrite, toRead, toSupply, reply, afterCall}
+use Rattle.gaugerules.specs.Laws.{SameValid, SameWrite, SameRead, SameSupply}
 use Rattle.gaugerules.specs.declared.state.Gauge.{Gauge}
 use Rattle.gaugerules.specs.declared.register.Register.{Register}
 use Rattle.gaugerules.specs.declared.answer.Written.{Written}
@@ -85,13 +86,19 @@ pub same-read : SameRead
 unfolding read readError
 same-read l l′ s image g r n buffer = rw (found l l′ s .fits (length image), same-valid l l′ s g)
 
+pub same-supply : SameSupply
+unfolding setSupply supplyError
+same-supply l l′ s size g millivolts = rw (found l l′ s .fits size, same-valid l l′ s g)
+
 module _ (l l′ : Layout) (s : SameClasses l l′) where
   pub same-reply : (d : Device) (c : Call) → reply l d c ≡ reply l′ d c
   unfolding reply
   same-reply d (toWrite r bytes) = rw (same-write l l′ s (d .image) (d .gauge) r bytes)
   same-reply d (toRead r n buffer) = rw (same-read l l′ s (d .image) (d .gauge) r n buffer)
+  same-reply d (toSupply millivolts) = rw (same-supply l l′ s (length (d .image)) (d .gauge) millivolts)
 
   pub same-after : (d : Device) (c : Call) → afterCall l d c ≡ afterCall l′ d c
   unfolding afterCall
   same-after d (toWrite r bytes) = rw (same-write l l′ s (d .image) (d .gauge) r bytes)
   same-after d (toRead r n buffer) = refl
+  same-after d (toSupply millivolts) = rw (same-supply l l′ s (length (d .image)) (d .gauge) millivolts)

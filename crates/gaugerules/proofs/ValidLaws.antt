@@ -18,9 +18,9 @@ use Rattle.flashrules.specs.declared.layout.Layout.{Layout}
 use Rattle.flashrules.proofs.BytesLaws.{bytes-set, bytes-zeros, are-bytes, test-bytes, loaded-bytes, stored-bytes}
 use Rattle.flashrules.proofs.Laws.{loaded-length, exists-found, store-length}
 use Rattle.flashrules.proofs.Picks.{and-first, and-rest, and-both, on-test, on-cond}
-use Rattle.gaugerules.specs.State.{unsealed, fullAccess, bootSealed, bootOpen, noWord, noBlock, controlInfo, infoBlocks}
+use Rattle.gaugerules.specs.State.{unsealed, fullAccess, bootSealed, bootOpen, noWord, noBlock, controlInfo, infoBlocks, maxSupply, powerOnSupply}
 use Rattle.gaugerules.specs.State.{isSealed, isFullAccess, nonePending, loadedOf, withLow, withPending, withResult, withControl, withClass}
-use Rattle.gaugerules.specs.State.{powerOn, load, unload}
+use Rattle.gaugerules.specs.State.{withSupply, powerOn, load, unload}
 use Rattle.gaugerules.specs.Valid.{maxWord, inRange, loadedValid, pendingValid, sealedValid, valid}
 use Rattle.gaugerules.specs.Register.{registerOf}
 use Rattle.gaugerules.specs.Keys.{keys, isKey}
@@ -47,6 +47,7 @@ pub record InRange (g : Gauge) : Type 0 where
   pub class : g .class ≤ maxByte
   pub block : g .block ≤ maxByte
   pub loaded : g .loaded ≤ noBlock
+  pub supply : g .supply ≤ maxSupply
   pub window : length (g .window) ≡ blockSize
 
 pub record Valid (l : Layout) (g : Gauge) : Type 0 where
@@ -58,15 +59,15 @@ pub record Valid (l : Layout) (g : Gauge) : Type 0 where
 
 range-parts : (g : Gauge) → inRange g ≡ true → InRange g
 unfolding inRange
-range-parts g e = search (and-first, and-rest, leb-true, eqb-true) depth 13
+range-parts g e = search (and-first, and-rest, leb-true, eqb-true) depth 14
 
 bytes-part : (g : Gauge) → inRange g ≡ true → Bytes (g .window)
 unfolding inRange
-bytes-part g e = search (and-first, and-rest, test-bytes) depth 13
+bytes-part g e = search (and-first, and-rest, test-bytes) depth 14
 
 parts-range : (g : Gauge) → InRange g → Bytes (g .window) → inRange g ≡ true
 unfolding inRange
-parts-range g v b = search (and-both, le-leb, eq-eqb, are-bytes) depth 13
+parts-range g v b = search (and-both, le-leb, eq-eqb, are-bytes) depth 14
 
 pub valid-parts : (l : Layout) (g : Gauge) → valid l g ≡ true → Valid l g
 unfolding valid
@@ -78,15 +79,16 @@ parts-valid l g v = search (and-both, parts-range)
 
 -- ---- power-on
 
-power-on-parts : (l : Layout) (boot : ℕ) → Valid l (powerOn boot)
+-- with any supply in range, as sealing and reset leave it
+power-on-parts : (l : Layout) (boot supply : ℕ) → supply ≤ maxSupply → Valid l (withSupply (powerOn boot) supply)
 unfolding loadedOf
-power-on-parts l boot =
+power-on-parts l boot supply h =
     on-test (eqb boot bootOpen)
     (λ p. record { range = rw p (omega arith); bytes = bytes-zeros blockSize; loaded = refl; pending = rw p; sealed = rw p })
     (λ p. record { range = rw p (omega arith); bytes = bytes-zeros blockSize; loaded = refl; pending = rw p; sealed = rw p })
 
 pub power-on-valid : PowerOnValid
-power-on-valid l boot = parts-valid l (powerOn boot) (power-on-parts l boot)
+power-on-valid l boot = parts-valid l (powerOn boot) (power-on-parts l boot powerOnSupply (omega arith))
 
 -- ---- one byte
 
@@ -97,6 +99,9 @@ ToValid l s = Valid l (s .gauge)
 module _ (l : Layout) (g : Gauge) (v : Valid l g) where
   low-valid : (byte : ℕ) → byte ≤ maxByte → Valid l (withLow g byte)
   low-valid byte h = record { range = omega arith; bytes = v .bytes; loaded = v .loaded; pending = v .pending; sealed = v .sealed }
+
+  pub supply-valid : (millivolts : ℕ) → millivolts ≤ maxSupply → Valid l (withSupply g millivolts)
+  supply-valid x h = record { range = omega arith; bytes = v .bytes; loaded = v .loaded; pending = v .pending; sealed = v .sealed }
 
   -- ---- words
 
@@ -131,8 +136,8 @@ module _ (l : Layout) (g : Gauge) (v : Valid l g) where
     unfolding obey
     obey-valid =
         on-cond (Valid l) (eqb w statusWord) _ _ (λ _. cleared-valid (status g) status-fits) (λ _.
-        on-cond (Valid l) (eqb w sealWord) _ _ (λ _. power-on-parts l bootSealed) (λ _.
-        on-cond (Valid l) (eqb w resetWord) _ _ (λ _. power-on-parts l (g .boot)) (λ _. key-valid)))
+        on-cond (Valid l) (eqb w sealWord) _ _ (λ _. power-on-parts l bootSealed (g .supply) (v .range .supply)) (λ _.
+        on-cond (Valid l) (eqb w resetWord) _ _ (λ _. power-on-parts l (g .boot) (g .supply) (v .range .supply)) (λ _. key-valid)))
 
   -- ---- unload, and the two registers that unload
 

@@ -7,7 +7,7 @@ use mathlib.Core.Logic.{_⊎_, inl, inr, ⊎-elim}
 use mathlib.Core.Bool.{true, false, true≢false}
 use mathlib.Core.List.{List, [], _∷_, _++_}
 use lib.Dec.{eqb}
-use lib.ListN.{take}
+use lib.ListN.{length, take}
 use borrow.Author.Tests.{eqb-false}
 use Rattle.flashrules.specs.declared.layout.Layout.{Layout}
 use Rattle.flashrules.proofs.PartLaws.{drop-front}
@@ -16,10 +16,11 @@ use Rattle.gaugerules.specs.State.{fullAccess, bootSealed, noWord, isSea
 use Rattle.gaugerules.specs.Keys.{fullAccessKey, keyLength, keys, keyBytes, isKey}
 use Rattle.gaugerules.specs.Word.{word, statusWord, sealWord, resetWord, keyWanted, waits, opened, keyWord, withStatus, obey}
 use Rattle.gaugerules.specs.Write.{write}
-use Rattle.gaugerules.specs.Script.{Device, device, Call, toWrite, toRead, afterCall, made, obeyed, words}
+use Rattle.gaugerules.specs.Script.{Device, device, Call, toWrite, toRead, toSupply, afterCall, made, obeyed, words}
 use Rattle.gaugerules.specs.KeyProtection.{neverFullAccess, sendsFullAccessKey, KeysKeptWithoutKey}
 use Rattle.gaugerules.specs.declared.state.Gauge.{Gauge}
 use Rattle.gaugerules.proofs.LockLaws.{Lock, lock, writes}
+use Rattle.gaugerules.proofs.SupplyCases.{supply-lock}
 use Rattle.gaugerules.proofs.KeyProtectionLaws.{call-keeps, keys-kept}
 
 -- ---- the words to come
@@ -115,6 +116,7 @@ unfolding afterCall obeyed
 guarded-call l start d ws (toWrite r bytes) e g =
     guarded-write l start (d .image) ws e (d .gauge .pending) (d .gauge) (record { mode = g .mode; boot = g .boot; is = refl }) r bytes (g .pending) (g .rest)
 guarded-call l start d ws (toRead r n buffer) e g = g
+guarded-call l start d ws (toSupply millivolts) e g = rw (supply-lock l (length (d .image)) (d .gauge) millivolts) g
 
 guarded : (l : Layout) (start : List ℕ) (cs : List Call) (d : Device) → keyBytes l (d .image) ≡ keyBytes l start
     → Guarded (keys l start) (words l d cs) (lock (d .gauge)) → neverFullAccess l d cs ≡ true

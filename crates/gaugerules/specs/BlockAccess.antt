@@ -1,8 +1,8 @@
 -- A block of the data flash through the registers, as a host reads and writes one: 0 at 0x61, class
 -- and block at 0x3E, bytes at 0x40 on, the checksum at 0x60. Every byte of it is accepted in full
--- access, and unsealed where the keys stay. Document 01, "The parameter desk": "a full access gauge
--- .. that loads the block, writes them and commits". proofs/Laws.antt has a proof of each claim,
--- under its name in small letters.
+-- access, and unsealed where the keys stay, on a supply that is not low. Document 01, "The
+-- parameter desk": "a full access gauge .. that loads the block, writes them and commits".
+-- proofs/Laws.antt has a proof of each claim, under its name in small letters.
 use Prim.Native.Nat.{ℕ, _+_, _≤_}
 use mathlib.Core.Path.{_≡_}
 use mathlib.Core.Logic.{_⊎_}
@@ -17,8 +17,8 @@ use Rattle.flashrules.specs.Lookup.{findBlock}
 use Rattle.flashrules.specs.Image.{maxByte, Bytes, blockBytes, asLoaded}
 use Rattle.flashrules.specs.declared.layout.Layout.{Layout}
 use Rattle.flashrules.specs.declared.lookup.Lookup.{Lookup}
-use Rattle.gaugerules.specs.State.{controlFlash, isSealed, isFullAccess, generalAccess, withControl, withClass}
-use Rattle.gaugerules.specs.State.{withWindow, unload, load}
+use Rattle.gaugerules.specs.State.{controlFlash, isSealed, isFullAccess, hasLowSupply, generalAccess, withControl}
+use Rattle.gaugerules.specs.State.{withClass, withWindow, unload, load}
 use Rattle.gaugerules.specs.Keys.{keyBytes}
 use Rattle.gaugerules.specs.Register.{dataFlashClass, blockData, blockDataChecksum, blockDataControl}
 use Rattle.gaugerules.specs.Write.{written, write}
@@ -79,8 +79,8 @@ ReadBlock =
 -- ---- a block is written
 
 -- class and block, the bytes, the checksum: three writes, each accepted whole, and the image that
--- they leave, which the third alone changes. Mode and general access stay, so that the next block
--- can follow
+-- they leave, which the third alone changes. Mode, general access and supply stay, so that the next
+-- block can follow
 pub record BlockWrites (l : Layout) (image : List ℕ) (g : Gauge) (i b o : ℕ) (bs to : List ℕ) : Type 0 where
   pub select : write l image g dataFlashClass (i ∷ b ∷ [])
       ≡ outcome (written 0 2 0 (blockSelected l image g i b)) image
@@ -90,6 +90,7 @@ pub record BlockWrites (l : Layout) (image : List ℕ) (g : Gauge) (i b o : ℕ)
       write l image h blockDataChecksum (checksum (h .window) ∷ []) ≡ outcome (written 0 1 (differing image to) h) to
   pub mode : blockEdited l image g i b o bs .mode ≡ g .mode
   pub access : generalAccess (blockEdited l image g i b o bs) ≡ true
+  pub supply : blockEdited l image g i b o bs .supply ≡ g .supply
   pub good : Good l to (blockEdited l image g i b o bs)
 
 -- C-14: which images a gauge may leave, in full access any, else those with the same keys
@@ -100,7 +101,8 @@ MayLeave l image g to = (isFullAccess g ≡ true) ⊎ (keyBytes l to ≡ keyByte
 -- there, and is else what it was
 abbrev pub WriteBlock : Type 0
 WriteBlock =
-    (l : Layout) (image : List ℕ) (g : Gauge) (i b s k : ℕ) → Good l image g → generalAccess g ≡ true → i ≤ maxByte
-    → b ≤ maxByte → findBlock l (length image) i b ≡ Lookup.Found s k
+    (l : Layout) (image : List ℕ) (g : Gauge) (i b s k : ℕ) → Good l image g → generalAccess g ≡ true
+    → hasLowSupply g ≡ false
+    → i ≤ maxByte → b ≤ maxByte → findBlock l (length image) i b ≡ Lookup.Found s k
     → (o : ℕ) (bs : List ℕ) → Bytes bs → 1 ≤ length bs → o + length bs ≤ k
     → let to = sets image (s + o) bs in MayLeave l image g to → BlockWrites l image g i b o bs to

@@ -9,7 +9,7 @@ use mathlib.Core.List.{List, [], _∷_}
 use lib.Dec.{eqb}
 use lib.ListN.{length, getD, take, drop}
 use Rattle.checksum.specs.Checksum.{checksum}
-use Rattle.flashrules.specs.Error.{protectedKeys}
+use Rattle.flashrules.specs.Error.{protectedKeys, lowSupply}
 use Rattle.flashrules.specs.Refusal.{firstError}
 use Rattle.flashrules.specs.Outcome.{Outcome, outcome}
 use Rattle.flashrules.specs.Choice.{and, differing}
@@ -19,13 +19,14 @@ use Rattle.flashrules.specs.Lookup.{blockSize, findBlock}
 use Rattle.flashrules.specs.Image.{maxByte, Bytes, blockBytes, asLoaded}
 use Rattle.flashrules.specs.Laws.{Within, SameClasses}
 use Rattle.flashrules.specs.declared.layout.Layout.{Layout}
-use Rattle.gaugerules.specs.State.{infoBlocks, generalAccess, loadedOf, noneLoaded, powerOn, load}
+use Rattle.gaugerules.specs.State.{infoBlocks, hasLowSupply, generalAccess, loadedOf, noneLoaded, powerOn, load}
 use Rattle.gaugerules.specs.Valid.{valid}
 use Rattle.gaugerules.specs.Register.{dataFlashBlock, blockDataChecksum}
 use Rattle.gaugerules.specs.Keys.{keyLength, asSent, isKey}
 use Rattle.gaugerules.specs.Transfer.{byteWritten, accept, refuse, isProtected, changesKeys}
 use Rattle.gaugerules.specs.Write.{written, writeByte, writeBytes, callError, write}
 use Rattle.gaugerules.specs.Read.{readBytes, read}
+use Rattle.gaugerules.specs.Supply.{setSupply}
 use Rattle.gaugerules.specs.Table.{byteTests}
 use Rattle.gaugerules.specs.declared.state.Gauge.{Gauge}
 use Rattle.gaugerules.specs.declared.state.Loaded.{Loaded}
@@ -91,7 +92,7 @@ ReadAccepted =
 -- ---- which error a byte has
 
 -- 01: "Each is given when its row says so and never else.", "2 to 9 answer written bytes only", and
--- so does 16: of any gauge over an image of the layout
+-- so do 16 and 17: of any gauge over an image of the layout
 abbrev pub ByteError : Type 0
 ByteError =
     (l : Layout) (image : List ℕ) (g : Gauge) (r byte : ℕ) → fits l (length image) ≡ true
@@ -101,7 +102,7 @@ abbrev pub ByteErrors : Type 0
 ByteErrors =
     (l : Layout) (image : List ℕ) (g : Gauge) (r byte : ℕ) → fits l (length image) ≡ true
     → let e = writeByte l image g r byte .answer .error in
-    (e ≡ 0) ⊎ (((2 ≤ e) × (e ≤ 9)) ⊎ (e ≡ protectedKeys))
+    (e ≡ 0) ⊎ (((2 ≤ e) × (e ≤ 9)) ⊎ ((e ≡ protectedKeys) ⊎ (e ≡ lowSupply)))
 
 -- 01: "Otherwise 1, 2, 3 load A, B, C": always
 abbrev pub InfoLoads : Type 0
@@ -114,7 +115,8 @@ InfoLoads =
 -- ---- commits
 
 -- demand 2: "a block is loaded, it is not block A of a sealed gauge, and the byte matches"; C-14:
--- "The rule for commits in demand 2 reads with this condition added."
+-- "The rule for commits in demand 2 reads with this condition added."; C-16: "Soundness gains the
+-- range, demand 2's commit rule the condition"
 abbrev pub commits : Layout → List ℕ → Gauge → ℕ → Bool
 commits l image g byte =
     and
@@ -122,6 +124,7 @@ commits l image g byte =
     ∷ not (isProtected g)
     ∷ eqb byte (checksum (g .window))
     ∷ not (changesKeys l image g)
+    ∷ not (hasLowSupply g)
     ∷ [])
 
 -- image′ is what a commit leaves: the loaded block, which has bytes, holds the window's first ones,
@@ -231,3 +234,8 @@ abbrev pub SameRead : Type 0
 SameRead =
     (l l′ : Layout) → SameClasses l l′ → (image : List ℕ) (g : Gauge) (r n : ℕ) (buffer : List ℕ)
     → read l image g r n buffer ≡ read l′ image g r n buffer
+
+abbrev pub SameSupply : Type 0
+SameSupply =
+    (l l′ : Layout) → SameClasses l l′ → (size : ℕ) (g : Gauge) (millivolts : ℕ)
+    → setSupply l size g millivolts ≡ setSupply l′ size g millivolts

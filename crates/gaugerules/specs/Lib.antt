@@ -6,9 +6,11 @@ pub mod Word
 pub mod Transfer
 pub mod Write
 pub mod Read
+pub mod Supply
 pub mod Script
 pub mod Table
 pub mod Laws
 pub mod BlockAccess
 pub mod KeyProtection
 pub mod Noninterference
+pub mod SupplyLaws

@@ -13,8 +13,8 @@ use Rattle.flashrules.specs.Laws.{Within, SameClasses}
 use Rattle.flashrules.specs.declared.layout.Layout.{Layout}
 use Rattle.gaugerules.specs.State.{bootSealed, infoBlocks, blockB, blockC, isSealed, powerOn}
 use Rattle.gaugerules.specs.Valid.{valid}
-use Rattle.gaugerules.specs.Script.{Device, device, Call, toWrite, toRead, reply, afterCall, unseals, obeyed}
-use Rattle.gaugerules.specs.Script.{entersKey}
+use Rattle.gaugerules.specs.Script.{Device, device, Call, toWrite, toRead, toSupply, reply, afterCall, unseals}
+use Rattle.gaugerules.specs.Script.{obeyed, entersKey}
 use Rattle.gaugerules.specs.declared.state.Gauge.{Gauge}
 
 -- ---- what a sealed gauge may look at
@@ -72,6 +72,7 @@ Noninterference =
 abbrev pub CallBytes : Call → Type 0
 CallBytes (toWrite r bytes) = Bytes bytes
 CallBytes (toRead r n buffer) = Unit
+CallBytes (toSupply millivolts) = Unit
 
 -- a device that has obeyed the words `past`, the last one first, under a script: a call unseals it
 -- exactly if it enters the key; and if it does not, so on with the rest of the script

@@ -4,7 +4,7 @@ use Prim.Native.Nat.{ℕ, _+_}
 use mathlib.Core.Bool.{Bool, false, cond, not}
 use mathlib.Core.List.{List, [], _∷_, _++_}
 use lib.Dec.{eqb}
-use lib.ListN.{take}
+use lib.ListN.{length, take}
 use Rattle.flashrules.specs.Outcome.{Outcome}
 use Rattle.flashrules.specs.Choice.{and}
 use Rattle.flashrules.specs.declared.layout.Layout.{Layout}
@@ -14,6 +14,7 @@ use Rattle.gaugerules.specs.Keys.{unsealKey, keys, isKey}
 use Rattle.gaugerules.specs.Word.{word, statusWord, sealWord, resetWord}
 use Rattle.gaugerules.specs.Write.{write}
 use Rattle.gaugerules.specs.Read.{read}
+use Rattle.gaugerules.specs.Supply.{setSupply}
 use Rattle.gaugerules.specs.declared.state.Gauge.{Gauge}
 use Rattle.gaugerules.specs.declared.answer.Reading.{Reading}
 
@@ -26,26 +27,32 @@ device g image = record { gauge = g; image = image }
 
 -- 01: "The calls of demand 3 are the write and the read.", "The list holds every register, every
 -- count, every byte to be written and every reply room": a write at a register of its bytes; a read
--- at a register of a count, into a buffer
+-- at a register of a count, into a buffer. C-16: "demand 3 holds with supply frames in the one
+-- script": a supply in millivolts
 pub data Call : Type 0 where
   toWrite : ℕ → List ℕ → Call
   toRead : ℕ → ℕ → List ℕ → Call
+  toSupply : ℕ → Call
 
 -- 01: "Compared are the refusal number, the count taken and, for a read, the room afterwards, with
--- the bytes past the answer." C-12: "Demand 3 includes the new number"
+-- the bytes past the answer." C-12: "Demand 3 includes the new number". A supply has the number
+-- alone
 pub data Reply : Type 0 where
   ofWrite : ℕ → ℕ → ℕ → Reply
   ofRead : Outcome Reading (List ℕ) → Reply
+  ofSupply : ℕ → Reply
 
 unfoldable pub reply : Layout → Device → Call → Reply
 reply l d (toWrite r bytes) =
     let w = write l (d .image) (d .gauge) r bytes .answer in ofWrite (w .error) (w .accepted) (w .changed)
 reply l d (toRead r n buffer) = ofRead (read l (d .image) (d .gauge) r n buffer)
+reply l d (toSupply millivolts) = ofSupply (setSupply l (length (d .image)) (d .gauge) millivolts .error)
 
 -- 01: "every call gets the record and image that the call before it left, refused or not"
 unfoldable pub afterCall : Layout → Device → Call → Device
 afterCall l d (toWrite r bytes) = let w = write l (d .image) (d .gauge) r bytes in device (w .answer .gauge) (w .lent)
 afterCall l d (toRead r n buffer) = d
+afterCall l d (toSupply millivolts) = device (setSupply l (length (d .image)) (d .gauge) millivolts .gauge) (d .image)
 
 -- calls one after the other
 unfoldable pub afterCalls : Layout → Device → List Call → Device
@@ -73,6 +80,7 @@ unfoldable pub obeyed : Layout → Device → Call → List ℕ
 obeyed l d (toWrite r bytes) =
     made (d .gauge .low) r (take (write l (d .image) (d .gauge) r bytes .answer .accepted) bytes)
 obeyed l d (toRead r n buffer) = []
+obeyed l d (toSupply millivolts) = []
 
 -- the words that a script makes, in its order
 abbrev pub words : Layout → Device → List Call → List ℕ

@@ -4,7 +4,7 @@
 use Prim.Native.Nat.{ℕ, _+_, _*_, _/_, _%_}
 use mathlib.Core.Bool.{Bool, true, false, cond}
 use mathlib.Core.List.{List, [], _∷_}
-use lib.Dec.{eqb}
+use lib.Dec.{eqb, ltb}
 use lib.ListN.{replicate}
 use Rattle.flashrules.specs.Choice.{and}
 use Rattle.flashrules.specs.Lookup.{blockSize}
@@ -61,6 +61,17 @@ blockC = 2
 abbrev pub zeroWindow : List ℕ
 zeroWindow = replicate blockSize 0
 
+-- 02, C-16: "its supply in millivolts, 0 to 4,500, at 3,600 on power-on"
+abbrev pub maxSupply : ℕ
+maxSupply = 4500
+
+abbrev pub powerOnSupply : ℕ
+powerOnSupply = 3600
+
+-- 02, C-16: "2,700 itself is accepted": the least that a commit takes
+abbrev pub minCommitSupply : ℕ
+minCommitSupply = 2700
+
 -- ---- tests
 
 abbrev pub isSealed : Gauge → Bool
@@ -74,6 +85,10 @@ isFullAccess g = eqb (g .mode) fullAccess
 
 abbrev pub nonePending : Gauge → Bool
 nonePending g = eqb (g .pending) noWord
+
+-- C-16: "A commit under 2,700 is refused"
+abbrev pub hasLowSupply : Gauge → Bool
+hasLowSupply g = ltb (g .supply) minCommitSupply
 
 -- 01: "General access means not sealed and BlockDataControl 0."
 abbrev pub generalAccess : Gauge → Bool
@@ -105,8 +120,8 @@ isLoaded g class block =
 
 -- ---- changes of one field
 
-abbrev pub gauge : ℕ → ℕ → ℕ → ℕ → ℕ → ℕ → ℕ → ℕ → ℕ → List ℕ → Gauge
-gauge m h l p r c i b n w = record {
+abbrev pub gauge : ℕ → ℕ → ℕ → ℕ → ℕ → ℕ → ℕ → ℕ → ℕ → ℕ → List ℕ → Gauge
+gauge m h l p r c i b n s w = record {
   mode = m;
   boot = h;
   low = l;
@@ -116,44 +131,59 @@ gauge m h l p r c i b n w = record {
   class = i;
   block = b;
   loaded = n;
+  supply = s;
   window = w;
 }
 
 abbrev pub withMode : Gauge → ℕ → Gauge
 withMode g x =
-    gauge x (g .boot) (g .low) (g .pending) (g .result) (g .control) (g .class) (g .block) (g .loaded) (g .window)
+    gauge x (g .boot) (g .low) (g .pending) (g .result) (g .control) (g .class) (g .block) (g .loaded) (g .supply)
+    (g .window)
 
 abbrev pub withLow : Gauge → ℕ → Gauge
 withLow g x =
-    gauge (g .mode) (g .boot) x (g .pending) (g .result) (g .control) (g .class) (g .block) (g .loaded) (g .window)
+    gauge (g .mode) (g .boot) x (g .pending) (g .result) (g .control) (g .class) (g .block) (g .loaded) (g .supply)
+    (g .window)
 
 abbrev pub withPending : Gauge → ℕ → Gauge
 withPending g x =
-    gauge (g .mode) (g .boot) (g .low) x (g .result) (g .control) (g .class) (g .block) (g .loaded) (g .window)
+    gauge (g .mode) (g .boot) (g .low) x (g .result) (g .control) (g .class) (g .block) (g .loaded) (g .supply)
+    (g .window)
 
 abbrev pub withResult : Gauge → ℕ → Gauge
 withResult g x =
-    gauge (g .mode) (g .boot) (g .low) (g .pending) x (g .control) (g .class) (g .block) (g .loaded) (g .window)
+    gauge (g .mode) (g .boot) (g .low) (g .pending) x (g .control) (g .class) (g .block) (g .loaded) (g .supply)
+    (g .window)
 
 abbrev pub withControl : Gauge → ℕ → Gauge
 withControl g x =
-    gauge (g .mode) (g .boot) (g .low) (g .pending) (g .result) x (g .class) (g .block) (g .loaded) (g .window)
+    gauge (g .mode) (g .boot) (g .low) (g .pending) (g .result) x (g .class) (g .block) (g .loaded) (g .supply)
+    (g .window)
 
 abbrev pub withClass : Gauge → ℕ → Gauge
 withClass g x =
-    gauge (g .mode) (g .boot) (g .low) (g .pending) (g .result) (g .control) x (g .block) (g .loaded) (g .window)
+    gauge (g .mode) (g .boot) (g .low) (g .pending) (g .result) (g .control) x (g .block) (g .loaded) (g .supply)
+    (g .window)
 
 abbrev pub withBlock : Gauge → ℕ → Gauge
 withBlock g x =
-    gauge (g .mode) (g .boot) (g .low) (g .pending) (g .result) (g .control) (g .class) x (g .loaded) (g .window)
+    gauge (g .mode) (g .boot) (g .low) (g .pending) (g .result) (g .control) (g .class) x (g .loaded) (g .supply)
+    (g .window)
 
 abbrev pub withLoaded : Gauge → ℕ → Gauge
 withLoaded g x =
-    gauge (g .mode) (g .boot) (g .low) (g .pending) (g .result) (g .control) (g .class) (g .block) x (g .window)
+    gauge (g .mode) (g .boot) (g .low) (g .pending) (g .result) (g .control) (g .class) (g .block) x (g .supply)
+    (g .window)
+
+abbrev pub withSupply : Gauge → ℕ → Gauge
+withSupply g x =
+    gauge (g .mode) (g .boot) (g .low) (g .pending) (g .result) (g .control) (g .class) (g .block) (g .loaded) x
+    (g .window)
 
 abbrev pub withWindow : Gauge → List ℕ → Gauge
 withWindow g x =
-    gauge (g .mode) (g .boot) (g .low) (g .pending) (g .result) (g .control) (g .class) (g .block) (g .loaded) x
+    gauge (g .mode) (g .boot) (g .low) (g .pending) (g .result) (g .control) (g .class) (g .block) (g .loaded) (g .supply)
+    x
 
 -- ---- power-on, restart, load and unload
 
@@ -167,12 +197,12 @@ bootOf boot = cond (eqb boot bootOpen) bootOpen bootSealed
 
 -- 01: "All else is 0, none loaded, none waiting, BlockDataControl 1."
 abbrev pub powerOn : ℕ → Gauge
-powerOn boot = gauge (bootMode boot) (bootOf boot) 0 noWord 0 controlInfo 0 0 noBlock zeroWindow
+powerOn boot = gauge (bootMode boot) (bootOf boot) 0 noWord 0 controlInfo 0 0 noBlock powerOnSupply zeroWindow
 
--- 01: "record becomes that of power-on with ..": what sealing and reset leave of a gauge. Nothing
--- of it outlasts them
+-- 01: "record becomes that of power-on with ..": what sealing and reset leave of a gauge. C-16: its
+-- supply is "kept through sealing and reset"
 abbrev pub restart : Gauge → ℕ → Gauge
-restart g boot = powerOn boot
+restart g boot = withSupply (powerOn boot) (g .supply)
 
 -- 01: "Unload: none loaded, window zero, block 0."
 abbrev pub unload : Gauge → Gauge

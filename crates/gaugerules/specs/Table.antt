@@ -1,19 +1,19 @@
 -- The rows 2 to 9 of document 01's table, "Numbers of the refusals", for one byte of a write: each
 -- row as a test of the gauge, the register's number and the byte, in the order of "then byte by
--- byte 2, 3, 9, 4, 5, 6, 7, 8", and behind them document 02's "16, after 8". specs/Laws.antt claims
--- that the rules keep to it (`ByteError`).
+-- byte 2, 3, 9, 4, 5, 6, 7, 8", and behind them document 02's "16, after 8" and "17 .., after 16".
+-- specs/Laws.antt claims that the rules keep to it (`ByteError`).
 use Prim.Native.Nat.{ℕ}
 use mathlib.Core.Bool.{Bool, true, false, cond, not}
 use mathlib.Core.List.{List, [], _∷_}
 use lib.Dec.{eqb, leb}
 use Rattle.checksum.specs.Checksum.{checksum}
 use Rattle.flashrules.specs.Error.{readOnly, sealedRegister, unknownClass, unknownBlock, nothingLoaded}
-use Rattle.flashrules.specs.Error.{protectedBlock, wrongChecksum, invalidControl, protectedKeys}
+use Rattle.flashrules.specs.Error.{protectedBlock, wrongChecksum, invalidControl, protectedKeys, lowSupply}
 use Rattle.flashrules.specs.Choice.{and}
 use Rattle.flashrules.specs.Answer.{ifFound}
 use Rattle.flashrules.specs.Lookup.{findClass, blockExists}
 use Rattle.flashrules.specs.declared.layout.Layout.{Layout}
-use Rattle.gaugerules.specs.State.{isSealed, generalAccess, noneLoaded}
+use Rattle.gaugerules.specs.State.{isSealed, hasLowSupply, generalAccess, noneLoaded}
 use Rattle.gaugerules.specs.Transfer.{isProtected, changesKeys}
 use Rattle.gaugerules.specs.declared.state.Gauge.{Gauge}
 
@@ -57,6 +57,10 @@ row8 g r byte = and (eqb r 0x60 ∷ not (eqb byte (checksum (g .window))) ∷ []
 abbrev pub row16 : Layout → List ℕ → Gauge → ℕ → Bool
 row16 l image g r = and (eqb r 0x60 ∷ changesKeys l image g ∷ [])
 
+-- 02, C-16: "17 for a commit on low supply"
+abbrev pub row17 : Gauge → ℕ → Bool
+row17 g r = and (eqb r 0x60 ∷ hasLowSupply g ∷ [])
+
 abbrev pub byteTests : Layout → List ℕ → Gauge → ℕ → ℕ → List (Bool × ℕ)
 byteTests l image g r byte =
     (row2 r, readOnly)
@@ -68,4 +72,5 @@ byteTests l image g r byte =
     ∷ (row7 g r, protectedBlock)
     ∷ (row8 g r byte, wrongChecksum)
     ∷ (row16 l image g r, protectedKeys)
+    ∷ (row17 g r, lowSupply)
     ∷ []

@@ -8,7 +8,7 @@ use lib.Dec.{eqb, leb}
 use lib.ListN.{length, take, set}
 use Rattle.checksum.specs.Checksum.{checksum}
 use Rattle.flashrules.specs.Error.{sealedRegister, unknownBlock, nothingLoaded, protectedBlock, wrongChecksum}
-use Rattle.flashrules.specs.Error.{invalidControl, protectedKeys}
+use Rattle.flashrules.specs.Error.{invalidControl, protectedKeys, lowSupply}
 use Rattle.flashrules.specs.Refusal.{firstError}
 use Rattle.flashrules.specs.Choice.{and, differing}
 use Rattle.flashrules.specs.Answer.{ifFound}
@@ -16,8 +16,9 @@ use Rattle.flashrules.specs.Layout.{infoClass, keyClass}
 use Rattle.flashrules.specs.Lookup.{findBlock}
 use Rattle.flashrules.specs.Image.{blockBytes, storeBlock, asLoaded}
 use Rattle.flashrules.specs.declared.layout.Layout.{Layout}
-use Rattle.gaugerules.specs.State.{controlInfo, infoBlocks, blockA, isSealed, isUnsealed, generalAccess, loadedOf}
-use Rattle.gaugerules.specs.State.{ifLoaded, noneLoaded, isLoaded, withControl, withClass, withWindow, unload, load}
+use Rattle.gaugerules.specs.State.{controlInfo, infoBlocks, blockA, isSealed, isUnsealed, hasLowSupply}
+use Rattle.gaugerules.specs.State.{generalAccess, loadedOf, ifLoaded, noneLoaded, isLoaded, withControl}
+use Rattle.gaugerules.specs.State.{withClass, withWindow, unload, load}
 use Rattle.gaugerules.specs.Keys.{keyBlock, keysEnd, keyBytes}
 use Rattle.gaugerules.specs.declared.state.Gauge.{Gauge}
 use Rattle.gaugerules.specs.declared.answer.ByteWritten.{ByteWritten}
@@ -85,10 +86,13 @@ changesKeys l image g =
     ∷ not (eqb (differing (keyBytes l image) (take keysEnd (g .window))) 0)
     ∷ [])
 
--- 8: "checksum differs"; then 16
+-- 16, then C-16's "17 for a commit on low supply, after 16": whatever byte is written
+abbrev pub guardTests : Layout → List ℕ → Gauge → List (Bool × ℕ)
+guardTests l image g = (changesKeys l image g, protectedKeys) ∷ (hasLowSupply g, lowSupply) ∷ []
+
+-- 8: "checksum differs"; then these
 abbrev pub storeTests : Layout → List ℕ → Gauge → ℕ → List (Bool × ℕ)
-storeTests l image g byte =
-    (not (eqb byte (checksum (g .window))), wrongChecksum) ∷ (changesKeys l image g, protectedKeys) ∷ []
+storeTests l image g byte = (not (eqb byte (checksum (g .window))), wrongChecksum) ∷ guardTests l image g
 
 -- 6 and 7, then these
 abbrev pub commitTests : Layout → List ℕ → Gauge → ℕ → List (Bool × ℕ)

@@ -10,14 +10,15 @@ use Rattle.flashrules.specs.Layout.{infoClass}
 use Rattle.flashrules.specs.Lookup.{blockSize, blockExists}
 use Rattle.flashrules.specs.Image.{maxByte, areBytes}
 use Rattle.flashrules.specs.declared.layout.Layout.{Layout}
-use Rattle.gaugerules.specs.State.{fullAccess, bootOpen, noWord, noBlock, controlInfo, infoBlocks}
+use Rattle.gaugerules.specs.State.{fullAccess, bootOpen, noWord, noBlock, controlInfo, infoBlocks, maxSupply}
 use Rattle.gaugerules.specs.State.{isSealed, isFullAccess, nonePending, loadedOf, ifLoaded}
 use Rattle.gaugerules.specs.declared.state.Gauge.{Gauge}
 
 abbrev pub maxWord : ℕ
 maxWord = 65535
 
--- 01: "its numbers are in range", those of the "32 window bytes" among them
+-- 01: "its numbers are in range", those of the "32 window bytes" among them. C-16: "Soundness gains
+-- the range"
 unfoldable pub inRange : Gauge → Bool
 inRange g =
     and
@@ -30,6 +31,7 @@ inRange g =
     ∷ leb (g .class) maxByte
     ∷ leb (g .block) maxByte
     ∷ leb (g .loaded) noBlock
+    ∷ leb (g .supply) maxSupply
     ∷ eqb (length (g .window)) blockSize
     ∷ areBytes (g .window)
     ∷ [])

@@ -5,7 +5,7 @@ use mathlib.Core.Bool.{Bool, true, cond, not}
 use mathlib.Core.List.{List, [], _∷_}
 use lib.Dec.{eqb, ltb}
 use lib.ListN.{length}
-use Rattle.flashrules.specs.Error.{invalidSpan, readOnly, malformed, invalidGauge}
+use Rattle.flashrules.specs.Error.{invalidArgument, readOnly, malformed, invalidGauge}
 use Rattle.flashrules.specs.Refusal.{firstError}
 use Rattle.flashrules.specs.Outcome.{Outcome, outcome}
 use Rattle.flashrules.specs.Choice.{differing}
@@ -67,10 +67,14 @@ writeBytes l image g r n c (b ∷ bs) =
 unfoldable pub badSpan : ℕ → ℕ → Bool
 badSpan r n = cond (eqb n 0) true (ltb registers (r + n))
 
--- 01: "Order for a transaction: 10, 15, 1". The image has `size` bytes
+-- 01: "Order for a transaction: 10, 15, 1". The image has `size` bytes, and 1 is given where an
+-- argument is `bad`
+abbrev pub entryTests : Layout → ℕ → Gauge → Bool → List (Bool × ℕ)
+entryTests l size g bad =
+    (not (fits l size), malformed) ∷ (not (valid l g), invalidGauge) ∷ (bad, invalidArgument) ∷ []
+
 abbrev pub callTests : Layout → ℕ → Gauge → ℕ → ℕ → List (Bool × ℕ)
-callTests l size g r n =
-    (not (fits l size), malformed) ∷ (not (valid l g), invalidGauge) ∷ (badSpan r n, invalidSpan) ∷ []
+callTests l size g r n = entryTests l size g (badSpan r n)
 
 unfoldable pub callError : Layout → ℕ → Gauge → ℕ → ℕ → ℕ
 callError l size g r n = firstError (callTests l size g r n)

@@ -24,3 +24,10 @@ pub struct Reading {
     pub error: u8,
     pub accepted: usize,
 }
+
+// After the supply was set.
+#[repr(C)]
+pub struct Supplied {
+    pub error: u8,
+    pub gauge: Gauge,
+}

@@ -30,6 +30,13 @@ pub const INFO_BLOCKS: u8 = 3;
 
 pub const BLOCK_A: u8 = 0;
 
+// The supply in millivolts: at power-on, at most, and the least that a commit takes.
+pub const POWER_ON_SUPPLY: u16 = 3600;
+
+pub const MAX_SUPPLY: u16 = 4500;
+
+pub const MIN_COMMIT_SUPPLY: u16 = 2700;
+
 // What is in the window, as the rules go by it: a view of the number that a gauge holds.
 pub enum Loaded {
     None,
@@ -54,6 +61,8 @@ pub struct Gauge {
     pub block: u8,
     // The block in the window, or NO_BLOCK.
     pub loaded: u32,
+    // The supply in millivolts.
+    pub supply: u16,
     // BlockData().
     pub window: [u8; BLOCK_SIZE],
 }

@@ -16,14 +16,17 @@ use Rattle.flashrules.specs.Choice.{and}
 use Rattle.flashrules.specs.Lookup.{blockSize}
 use Rattle.flashrules.specs.Image.{maxByte}
 use Rattle.flashrules.proofs.BytesLaws.{are-bytes}
-use Rattle.gaugerules.specs.State.{fullAccess, bootOpen, noWord, noBlock, controlInfo, zeroWindow, bootMode, bootOf, powerOn}
-use Rattle.gaugerules.specs.State.{packed, withBlock, withLoaded, withWindow, load}
+use Rattle.gaugerules.specs.State.{fullAccess, bootOpen, noWord, noBlock, controlInfo, zeroWindow, maxSupply, powerOnSupply, bootMode, bootOf, powerOn}
+use Rattle.gaugerules.specs.State.{packed, withBlock, withLoaded, withSupply, withWindow, restart, load}
 use Rattle.gaugerules.specs.Valid.{maxWord, inRange, isZero}
 use Rattle.gaugerules.specs.declared.state.Gauge.{Gauge}
 
 pub powers-on : (boot m h : ℕ) → m ≡ bootMode boot → h ≡ bootOf boot
-    → record { mode = m; boot = h; low = 0; pending = noWord; result = 0; control = controlInfo; class = 0; block = 0; loaded = noBlock; window = zeroWindow } ≡ powerOn boot
+    → record { mode = m; boot = h; low = 0; pending = noWord; result = 0; control = controlInfo; class = 0; block = 0; loaded = noBlock; supply = powerOnSupply; window = zeroWindow } ≡ powerOn boot
 powers-on boot m h p q = rw (p, q)
+
+pub restarts : (g h : Gauge) (boot : ℕ) → h ≡ powerOn boot → withSupply h (g .supply) ≡ restart g boot
+restarts g h boot p = rw p
 
 pub loads : (g : Gauge) (byte i b n : ℕ) (w : List ℕ) → n ≡ packed i b → withWindow (withLoaded (withBlock g byte) n) w ≡ load g byte i b w
 loads g byte i b n w p = rw p
@@ -31,7 +34,7 @@ loads g byte i b n w p = rw p
 -- ---- a valid gauge
 
 pub in-range-by : (g : Gauge) (t : Bool)
-    → t ≡ and (leb (g .mode) fullAccess ∷ leb (g .boot) bootOpen ∷ leb (g .pending) noWord ∷ leb (g .control) controlInfo ∷ leb (g .loaded) noBlock ∷ [])
+    → t ≡ and (leb (g .mode) fullAccess ∷ leb (g .boot) bootOpen ∷ leb (g .pending) noWord ∷ leb (g .control) controlInfo ∷ leb (g .loaded) noBlock ∷ leb (g .supply) maxSupply ∷ [])
     → g .low ≤ maxByte → g .result ≤ maxWord → g .class ≤ maxByte → g .block ≤ maxByte → length (g .window) ≡ blockSize
     → ((k : ℕ) → Fits w8 (getD (g .window) k 0)) → t ≡ inRange g
 unfolding inRange

@@ -9,6 +9,7 @@ use gaugerules::state::Gauge;
 use gaugerules::state::Loaded;
 use gaugerules::state::NO_BLOCK;
 use gaugerules::state::NO_WORD;
+use gaugerules::state::POWER_ON_SUPPLY;
 use gaugerules::state::SEALED;
 ghost use mathlib.Core.Path.{_≡_};
 ghost use Rattle.gaugerules.specs.State.{bootMode, bootOf, powerOn, restart, generalAccess, loadedOf, isLoaded, packed, unload, load};
@@ -47,15 +48,18 @@ pub fn power_on(boot: u8) -> Gauge
         class: 0,
         block: 0,
         loaded: NO_BLOCK,
+        supply: POWER_ON_SUPPLY,
         window: [0u8; BLOCK_SIZE],
     }
 }
 
-// What sealing and reset leave of a gauge: power-on, since nothing of it outlasts them.
+// What sealing and reset leave of a gauge: power-on, with the supply that it has.
 pub fn restart(gauge: Gauge, boot: u8) -> Gauge
     ensures { λ r. ⌜ r ≡ restart gauge boot ⌝ }
 {
-    power_on(boot)
+    let mut next = power_on(boot);
+    next.supply = gauge.supply;
+    next
 }
 
 // Not sealed, and the data flash selected.

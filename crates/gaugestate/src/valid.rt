@@ -10,6 +10,7 @@ use gaugerules::state::FULL_ACCESS;
 use gaugerules::state::Gauge;
 use gaugerules::state::INFO_BLOCKS;
 use gaugerules::state::Loaded;
+use gaugerules::state::MAX_SUPPLY;
 use gaugerules::state::NO_BLOCK;
 use gaugerules::state::NO_WORD;
 use gaugerules::state::SEALED;
@@ -18,18 +19,20 @@ ghost use mathlib.Core.Path.{_≡_};
 ghost use mathlib.Core.List.{[], _∷_};
 ghost use lib.Dec.{leb};
 ghost use Rattle.flashrules.specs.Choice.{and};
-ghost use Rattle.gaugerules.specs.State.{fullAccess, bootOpen, noWord, noBlock, controlInfo};
+ghost use Rattle.gaugerules.specs.State.{fullAccess, bootOpen, noWord, noBlock, controlInfo, maxSupply};
 ghost use Rattle.gaugerules.specs.Valid.{inRange, isZero, loadedValid, pendingValid, onlyInfoLoaded, sealedValid, valid};
 
 // The numbers of which a type holds more than a gauge may have.
-fn few_in_range(mode: u8, boot: u8, pending: u32, control: u8, loaded: u32) -> bool
-    ensures { λ r. ⌜ r ≡ and (leb mode fullAccess ∷ leb boot bootOpen ∷ leb pending noWord ∷ leb control controlInfo ∷ leb loaded noBlock ∷ []) ⌝ }
+fn few_in_range(mode: u8, boot: u8, pending: u32, control: u8, loaded: u32, supply: u16) -> bool
+    ensures { λ r. ⌜ r ≡ and (leb mode fullAccess ∷ leb boot bootOpen ∷ leb pending noWord ∷ leb control controlInfo ∷ leb loaded noBlock ∷ leb supply maxSupply ∷ []) ⌝ }
 {
     if mode <= FULL_ACCESS {
         if boot <= BOOT_OPEN {
             if pending <= NO_WORD {
                 if control <= CONTROL_INFO {
-                    return loaded <= NO_BLOCK;
+                    if loaded <= NO_BLOCK {
+                        return supply <= MAX_SUPPLY;
+                    }
                 }
             }
         }
@@ -47,6 +50,7 @@ fn in_range(gauge: Gauge) -> bool
         gauge.pending,
         gauge.control,
         gauge.loaded,
+        gauge.supply,
     )
 }
 

@@ -73,7 +73,7 @@ module _ (l : Layout) (image : List ℕ) (p : Parameter) (r : Readable l (length
       let w = widthOf (p .kind) in
       let n = to-bytes-length w v in
       rw (← place .place)
-      (write-block l image openGauge (p .class) b (place .start) (place .len) (access .good) (access .access) hc (place .byte) (place .found) o (toBytes w v)
+      (write-block l image openGauge (p .class) b (place .start) (place .len) (access .good) (access .access) refl hc (place .byte) (place .found) o (toBytes w v)
       (to-bytes-bytes w v) (omega (arith, n, width-some l (length image) p r)) (omega (arith, n, place .end)) (inl refl))
 
 pub set-by-gauge : SetByGauge

@@ -8,6 +8,7 @@ use hextext::value;
 use scriptrules::parser::MAX_FRAME;
 use scriptrules::parser::Parser;
 use scriptrules::parser::READ;
+use scriptrules::parser::SUPPLY;
 use scriptrules::parser::WRITE;
 ghost use mathlib.Core.Path.{_≡_};
 ghost use Rattle.scriptrules.specs.Parser.{start, broken, isDigit, isWhole, kindWith, withDigit, withCharacter, feedByte, feed, endError, isFrame};
@@ -48,6 +49,9 @@ fn is_whole(kind: u8, count: usize) -> bool
     ensures { λ r. ⌜ r ≡ isWhole kind count ⌝ }
 {
     if kind == READ {
+        return count == 6;
+    }
+    if kind == SUPPLY {
         return count == 6;
     }
     if kind == WRITE {

@@ -1,6 +1,6 @@
 -- Frames, their bytes and their text, both ways.
 use Prim.Native.Nat.{ℕ, _+_, _*_, _/_, _%_, _≤_}
-use mathlib.Core.Path.{_≡_, refl, sym, _∙_}
+use mathlib.Core.Path.{_≡_, refl, sym, ap, _∙_}
 use mathlib.Core.Bool.{true, false}
 use mathlib.Core.List.{List, [], _∷_}
 use native.Mathlib.Omega.{arith}
@@ -10,8 +10,10 @@ use lib.ListN.{length, getD}
 use borrow.Author.Tests.{lt-ltb, le-ltb, le-leb, leb-true, ne-eqb}
 use Rattle.hextext.specs.Hex.{digit, value, pair, hex, unhex, lineFeed}
 use Rattle.hextext.proofs.HexLaws.{digit-low, digit-high, value-low, value-high, value-small, hex-back, unhex-length}
+use Rattle.flashrules.specs.Image.{Bytes}
 use Rattle.flashrules.proofs.Picks.{and-first, and-rest}
-use Rattle.scriptrules.specs.Frame.{Frame, writeFrame, readFrame, readKind, writeKind, frameBytes, lineOf, frameWith, frameOf}
+use Rattle.gaugerules.specs.Word.{word}
+use Rattle.scriptrules.specs.Frame.{Frame, writeFrame, readFrame, supplyFrame, readKind, writeKind, supplyKind, frameBytes, lineOf, frameWith, frameOf}
 use Rattle.scriptrules.specs.Parser.{isDigit}
 use Rattle.scriptrules.specs.Laws.{Sendable}
 
@@ -81,16 +83,26 @@ unhex-half x e = rw (unhex-length (length x / 2) x (omega arith)) (omega arith)
 frame-back : (f : Frame) → frameWith (frameBytes f) ≡ f
 frame-back (writeFrame r bytes) = refl
 frame-back (readFrame r n) = refl
+frame-back (supplyFrame millivolts) = ap supplyFrame (omega arith)
 
 pub line-back : (f : Frame) → Sendable f → frameOf (lineOf f) ≡ f
 line-back f s = rw (hex-back (frameBytes f) (s .bytes)) (frame-back f)
 
+three : (bs : List ℕ) → length bs ≡ 3 → getD bs 0 0 ∷ getD bs 1 0 ∷ getD bs 2 0 ∷ [] ≡ bs
+three [] e = absurd (omega arith)
+three (a ∷ []) e = absurd (omega arith)
+three (a ∷ b ∷ []) e = absurd (omega arith)
+three (a ∷ b ∷ c ∷ []) e = refl
+three (a ∷ b ∷ c ∷ d ∷ bs) e = absurd (omega arith)
+
 pub read-back : (bs : List ℕ) → getD bs 0 0 ≡ readKind → length bs ≡ 3 → frameBytes (frameWith bs) ≡ bs
-read-back [] k e = absurd (omega arith)
-read-back (a ∷ []) k e = absurd (omega arith)
-read-back (a ∷ b ∷ []) k e = absurd (omega arith)
-read-back (a ∷ b ∷ c ∷ []) k e = rw k
-read-back (a ∷ b ∷ c ∷ d ∷ bs) k e = absurd (omega arith)
+read-back bs k e = rw k (rw k at (three bs e))
+
+pub supply-back : (bs : List ℕ) → Bytes bs → getD bs 0 0 ≡ supplyKind → length bs ≡ 3 → frameBytes (frameWith bs) ≡ bs
+supply-back bs h k e =
+    let high : word (getD bs 2 0) (getD bs 1 0) / 256 ≡ getD bs 1 0 = omega (arith, h 2) in
+    let low : word (getD bs 2 0) (getD bs 1 0) % 256 ≡ getD bs 2 0 = omega (arith, h 2) in
+    rw (k, high, low) (rw k at (three bs e))
 
 pub write-back : (bs : List ℕ) → getD bs 0 0 ≡ writeKind → 2 ≤ length bs → frameBytes (frameWith bs) ≡ bs
 write-back [] k h = absurd (omega arith)

@@ -10,4 +10,4 @@ pub use Rattle.scriptrules.proofs.RunLaws.{run-frames}
 pub use Rattle.scriptrules.proofs.HostLaws.{host-prints}
 pub use Rattle.scriptrules.proofs.NoninterferenceLaws.{frame-noninterference, output-noninterference}
 pub use Rattle.scriptrules.proofs.KeyLaws.{frames-keep-keys}
-pub use Rattle.scriptrules.proofs.WhyLaws.{explained-each, explained-count, cause-true, caused-by-line}
+pub use Rattle.scriptrules.proofs.WhyLaws.{explained-each, explained-count, explained-supply, cause-true, caused-by-line}

@@ -12,7 +12,7 @@ use Rattle.hextext.specs.Hex.{value, pair, lineFeed}
 use Rattle.hextext.proofs.HexLaws.{value-small}
 use Rattle.flashrules.specs.Error.{malformed}
 use Rattle.flashrules.proofs.Picks.{and-first, and-rest, on-test, on-cond}
-use Rattle.scriptrules.specs.Frame.{readKind, writeKind, maxFrame}
+use Rattle.scriptrules.specs.Frame.{readKind, writeKind, supplyKind, maxFrame}
 use Rattle.scriptrules.specs.Parser.{state, start, broken, isDigit, isWhole, kindWith, withDigit, withCharacter, feedByte, feed, endError}
 use Rattle.scriptrules.specs.Laws.{FeedChunks}
 use Rattle.scriptrules.specs.declared.parser.Parser.{Parser}
@@ -138,6 +138,7 @@ feed-typed line (c ∷ x) t g n =
 
 pub data Whole (kind count : ℕ) : Type 0 where
   reads : kind ≡ readKind → count ≡ 6 → Whole kind count
+  supplies : kind ≡ supplyKind → count ≡ 6 → Whole kind count
   writes : kind ≡ writeKind → 4 ≤ count → count % 2 ≡ 0 → Whole kind count
 
 module _ (kind count : ℕ) where
@@ -146,20 +147,25 @@ module _ (kind count : ℕ) where
   whole e =
       on-test (eqb kind readKind) (λ t. reads (eqb-true _ _ t) (eqb-true count 6 (rw t at e)))
       (λ t.
-      let w = rw t at e in
+      on-test (eqb kind supplyKind) (λ u. supplies (eqb-true _ _ u) (eqb-true count 6 (rw (t, u) at e)))
+      (λ u.
+      let w = rw (t, u) at e in
       let v = and-rest (eqb kind writeKind) _ w in
       writes (eqb-true _ _ (and-first (eqb kind writeKind) _ w)) (leb-true 4 count (and-first (leb 4 count) _ v))
-      (eqb-true (count % 2) 0 (and-first (eqb (count % 2) 0) _ (and-rest (leb 4 count) _ v))))
+      (eqb-true (count % 2) 0 (and-first (eqb (count % 2) 0) _ (and-rest (leb 4 count) _ v)))))
 
   pub is-whole : Whole kind count → isWhole kind count ≡ true
   unfolding isWhole
   is-whole (reads k n) = rw (k, n)
+  is-whole (supplies k n) = rw (k, n)
   is-whole (writes k n e) = rw (k, le-leb 4 count n, e)
 
   pub whole-least : Whole kind count → 4 ≤ count
   whole-least (reads k n) = omega arith
+  whole-least (supplies k n) = omega arith
   whole-least (writes k n e) = n
 
   pub whole-even : Whole kind count → count % 2 ≡ 0
   whole-even (reads k n) = rw n
+  whole-even (supplies k n) = rw n
   whole-even (writes k n e) = e

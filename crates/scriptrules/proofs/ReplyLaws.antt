@@ -16,7 +16,7 @@ use Rattle.gaugerules.specs.Read.{readError, read}
 use Rattle.gaugerules.specs.Script.{Device, reply}
 use Rattle.gaugerules.specs.declared.state.Gauge.{Gauge}
 use Rattle.gaugerules.proofs.ReadLaws.{read-free}
-use Rattle.scriptrules.specs.Frame.{Frame, writeFrame, readFrame}
+use Rattle.scriptrules.specs.Frame.{Frame, writeFrame, readFrame, supplyFrame}
 use Rattle.scriptrules.specs.Parser.{ParsedScript, script, noScript, parseScript}
 use Rattle.scriptrules.specs.Reply.{replyText, maxReply, replies}
 use Rattle.scriptrules.specs.Replay.{poweredOn, outputOf, replay}
@@ -37,6 +37,7 @@ unfolding replyText reply
 reply-length l d (writeFrame r bytes) = omega arith
 reply-length l d (readFrame r n) =
     rw (line-length, length-take) (omega (arith, read-accepts l (d .image) (d .gauge) r n (replicate registers 0)))
+reply-length l d (supplyFrame millivolts) = omega arith
 
 -- a reply has its line feed
 reply-some : (l : Layout) (d : Device) (f : Frame) → 1 ≤ length (replyText l d f)

@@ -10,13 +10,14 @@ use borrow.Author.Tests.{eqb-true, eq-eqb}
 use Rattle.hextext.specs.Hex.{unhex, lineFeed}
 use Rattle.hextext.proofs.HexLaws.{hex-length, pair-back, unhex-bytes}
 use Rattle.flashrules.proofs.Picks.{and-first, and-rest, on-test}
-use Rattle.scriptrules.specs.Frame.{Frame, writeFrame, readFrame, readKind, writeKind, frameBytes, maxFrame, lineOf, serializeScript, linesAfter, linesOf, frameOf, framesOf}
+use Rattle.scriptrules.specs.Frame.{Frame, writeFrame, readFrame, supplyFrame, readKind, writeKind, supplyKind, frameBytes, maxFrame, lineOf, serializeScript}
+use Rattle.scriptrules.specs.Frame.{linesAfter, linesOf, frameOf, framesOf}
 use Rattle.scriptrules.specs.Parser.{start, broken, isWhole, feed, endError, script, noScript, parseScript, isFrame}
 use Rattle.scriptrules.specs.Laws.{Sendable, AllSendable, IsScript, AcceptedScript, IsLine, AcceptedLine}
-use Rattle.scriptrules.proofs.FrameLaws.{hex-digits, hex-unhex, unhex-half, line-back, read-back, write-back}
+use Rattle.scriptrules.proofs.FrameLaws.{hex-digits, hex-unhex, unhex-half, line-back, read-back, supply-back, write-back}
 use Rattle.scriptrules.proofs.WholeLines.{lines-line}
 use Rattle.scriptrules.proofs.ParserLaws.{feed-chunks, never-good, end-good, end-none, kindOf, after, Typed, typed-none, on-feed-byte, feed-line, feed-typed}
-use Rattle.scriptrules.proofs.ParserLaws.{feed-byte-end, Whole, reads, writes, whole, is-whole, whole-least, whole-even}
+use Rattle.scriptrules.proofs.ParserLaws.{feed-byte-end, Whole, reads, supplies, writes, whole, is-whole, whole-least, whole-even}
 
 -- ---- a whole line is the line of its frame
 
@@ -28,6 +29,7 @@ kind-first (a ∷ b ∷ cs) h = refl
 module _ (line : List ℕ) where
   whole-bytes : Whole (kindOf line) (length line) → length (unhex line) * 2 ≡ length line → frameBytes (frameOf line) ≡ unhex line
   whole-bytes (reads k n) h = read-back (unhex line) (kind-first line (omega arith) ∙ k) (omega arith)
+  whole-bytes (supplies k n) h = supply-back (unhex line) (unhex-bytes line) (kind-first line (omega arith) ∙ k) (omega arith)
   whole-bytes (writes k n e) h = write-back (unhex line) (kind-first line (omega arith) ∙ k) (omega arith)
 
   whole-line : Typed line → isWhole (kindOf line) (length line) ≡ true → IsLine (frameOf line) line
@@ -42,6 +44,7 @@ module _ (line : List ℕ) where
 
 line-whole : (f : Frame) → isWhole (kindOf (lineOf f)) (length (lineOf f)) ≡ true
 line-whole (readFrame r n) = is-whole _ _ (reads (pair-back readKind (omega arith)) refl)
+line-whole (supplyFrame millivolts) = is-whole _ _ (supplies (pair-back supplyKind (omega arith)) refl)
 line-whole (writeFrame r bytes) =
     let n = hex-length (writeKind ∷ r ∷ bytes) in
     is-whole _ _ (writes (pair-back writeKind (omega arith)) (omega arith) (omega arith))

@@ -17,18 +17,19 @@ use Rattle.gaugerules.specs.Write.{write}
 use Rattle.gaugerules.specs.declared.state.Gauge.{Gauge}
 use Rattle.causerules.specs.History.{Step, writeSteps}
 use Rattle.causerules.specs.Cause.{reasonOf, causeText}
-use Rattle.causerules.specs.Notes.{blank, nextLine, maxLines, noteAll, track, trackedText}
+use Rattle.causerules.specs.Notes.{blank, nextLine, maxLines, noteAll, track, trackSupply, trackedText}
 use Rattle.causerules.specs.Laws.{Remembers}
 use Rattle.causerules.specs.declared.reason.Reason.{Reason}
 use Rattle.causerules.specs.declared.notes.Notes.{Notes}
 use Rattle.causerules.specs.declared.notes.Tracked.{Tracked}
-use Rattle.causerules.proofs.Laws.{notes-remember}
+use Rattle.causerules.proofs.Laws.{notes-remember, supply-remembered}
 use Rattle.causerules.proofs.HistoryLaws.{notes-line}
-use Rattle.scriptrules.specs.Frame.{Frame, writeFrame, readFrame}
+use Rattle.causerules.proofs.SupplyLaws.{supply-itself}
+use Rattle.scriptrules.specs.Frame.{Frame, writeFrame, readFrame, supplyFrame}
 use Rattle.scriptrules.specs.Reply.{maxReply, replies, afterFrame}
 use Rattle.scriptrules.specs.Replay.{replay}
 use Rattle.scriptrules.specs.Why.{frameSteps, explanation, explanations, why}
-use Rattle.scriptrules.specs.Session.{reportCauses, Runner, freshRunner, deviceOf, trackFrame, notedText}
+use Rattle.scriptrules.specs.Session.{reportCauses, Runner, freshRunner, deviceOf, trackFrame, trackSupplyFrame, notedText}
 use Rattle.scriptrules.specs.Session.{frameText, afterLine, outputs, afterLines}
 use Rattle.scriptrules.specs.Laws.{OutputLength, OutputWhole}
 use Rattle.scriptrules.proofs.ReplyLaws.{reply-length}
@@ -49,6 +50,7 @@ tracked-length t = cause-length _ _ _
 noted-length : (l : Layout) (b : Runner) (f : Frame) → length (notedText l b f) ≤ maxReply
 noted-length l b (writeFrame r bytes) = tracked-length (trackFrame l b r bytes .answer)
 noted-length l b (readFrame r n) = omega arith
+noted-length l b (supplyFrame millivolts) = tracked-length (trackSupplyFrame l b millivolts)
 
 pub output-length : OutputLength
 unfolding frameText
@@ -88,7 +90,7 @@ module _ (l : Layout) (report : ℕ) (b : Runner) (h : List Step) (m : Remembers
   counted = omega arith
 
   noted-text : (f : Frame) → frameText l report b f ≡ explanation l (deviceOf b) h line f
-  unfolding frameText trackedText trackFrame track explanation outcome
+  unfolding frameText trackedText trackFrame track trackSupplyFrame trackSupply explanation outcome
   noted-text (writeFrame r bytes) =
       let w = write l (b .image) (b .session .gauge) r bytes .answer in
       let n = nextLine (b .session .notes) in
@@ -96,6 +98,7 @@ module _ (l : Layout) (report : ℕ) (b : Runner) (h : List Step) (m : Remembers
       let is = notes-remember n h steps (next-remembers (b .session .notes) h m) (reasonOf (w .error) (w .gauge)) in
       rw (p, is, notes-line n steps, counted)
   noted-text (readFrame r n) = rw p
+  noted-text (supplyFrame millivolts) = rw (p, supply-itself l (length (b .image)) (b .session .gauge) _ millivolts, counted)
 
   -- k is its number
   write-remembers : (r : ℕ) (bytes : List ℕ) (k : ℕ) → let n = nextLine (b .session .notes) in
@@ -108,12 +111,15 @@ module _ (l : Layout) (report : ℕ) (b : Runner) (h : List Step) (m : Remembers
 
   noted-after : (f : Frame) → (deviceOf (afterLine l report b f) ≡ afterFrame l (deviceOf b) f) × (afterLine l report b f .session .notes .line ≡ line)
       × Remembers (afterLine l report b f .session .notes) (h ++ frameSteps l (deviceOf b) line f)
-  unfolding afterLine trackFrame track outcome afterFrame afterCall
+  unfolding afterLine trackFrame track trackSupplyFrame trackSupply outcome afterFrame afterCall
   noted-after (writeFrame r bytes) =
       let n = nextLine (b .session .notes) in
       let steps = writeSteps l (b .image) (b .session .gauge) (n .line) r bytes in
       rw p (refl, notes-line n steps ∙ counted, write-remembers r bytes line (sym counted))
   noted-after (readFrame r n) = rw (p, append-nil) (refl, counted, next-remembers (b .session .notes) h m)
+  noted-after (supplyFrame millivolts) =
+      rw p
+      (refl, counted, supply-remembered l (length (b .image)) (b .session .gauge) line millivolts _ h (next-remembers (b .session .notes) h m))
 
 reports-causes : (l : Layout) (report : ℕ) (b : Runner) (h : List Step) (fs : List Frame) → eqb report reportCauses ≡ true
     → Remembers (b .session .notes) h

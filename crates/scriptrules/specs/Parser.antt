@@ -9,7 +9,7 @@ use lib.ListN.{length}
 use Rattle.hextext.specs.Hex.{value, lineFeed}
 use Rattle.flashrules.specs.Error.{malformed}
 use Rattle.flashrules.specs.Choice.{and}
-use Rattle.scriptrules.specs.Frame.{Frame, readKind, writeKind, maxFrame, linesOf, framesOf}
+use Rattle.scriptrules.specs.Frame.{Frame, readKind, writeKind, supplyKind, maxFrame, linesOf, framesOf}
 use Rattle.scriptrules.specs.declared.parser.Parser.{Parser}
 
 -- `good`: no rule is broken yet. Of the line that is not ended yet: how many digits it has, and its
@@ -32,7 +32,7 @@ isDigit c = cond (ltb c 65) (and (leb 48 c ∷ leb c 57 ∷ [])) (leb c 70)
 unfoldable pub isWhole : ℕ → ℕ → Bool
 isWhole kind count =
     cond (eqb kind readKind) (eqb count 6)
-    (and (eqb kind writeKind ∷ leb 4 count ∷ eqb (count % 2) 0 ∷ []))
+    (cond (eqb kind supplyKind) (eqb count 6) (and (eqb kind writeKind ∷ leb 4 count ∷ eqb (count % 2) 0 ∷ [])))
 
 -- the kind, with another of its two digits
 abbrev pub kindWith : ℕ → ℕ → ℕ

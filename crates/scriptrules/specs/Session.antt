@@ -4,15 +4,16 @@ use Prim.Native.Nat.{ℕ, _+_}
 use mathlib.Core.Bool.{Bool, false, cond}
 use mathlib.Core.List.{List, [], _∷_, _++_}
 use lib.Dec.{eqb, ltb}
+use lib.ListN.{length}
 use Rattle.flashrules.specs.Outcome.{Outcome}
 use Rattle.flashrules.specs.declared.layout.Layout.{Layout}
 use Rattle.gaugerules.specs.State.{bootSealed, powerOn}
 use Rattle.gaugerules.specs.Script.{Device, device}
 use Rattle.gaugerules.specs.declared.state.Gauge.{Gauge}
-use Rattle.causerules.specs.Notes.{blank, nextLine, maxLines, track, trackedText}
+use Rattle.causerules.specs.Notes.{blank, nextLine, maxLines, track, trackSupply, trackedText}
 use Rattle.causerules.specs.declared.notes.Notes.{Notes}
 use Rattle.causerules.specs.declared.notes.Tracked.{Tracked}
-use Rattle.scriptrules.specs.Frame.{Frame, writeFrame, readFrame}
+use Rattle.scriptrules.specs.Frame.{Frame, writeFrame, readFrame, supplyFrame}
 use Rattle.scriptrules.specs.Reply.{replyText, afterFrame}
 use Rattle.scriptrules.specs.Replay.{replay}
 use Rattle.scriptrules.specs.Why.{why}
@@ -76,10 +77,15 @@ deviceOf b = device (b .session .gauge) (b .image)
 unfoldable pub trackFrame : Layout → Runner → ℕ → List ℕ → Outcome Tracked (List ℕ)
 trackFrame l b r bytes = track l (b .image) (b .session .gauge) (nextLine (b .session .notes)) r bytes
 
+unfoldable pub trackSupplyFrame : Layout → Runner → ℕ → Tracked
+trackSupplyFrame l b millivolts =
+    trackSupply l (length (b .image)) (b .session .gauge) (nextLine (b .session .notes)) millivolts
+
 -- a read is a line too
 abbrev pub notedText : Layout → Runner → Frame → List ℕ
 notedText l b (writeFrame r bytes) = trackedText (trackFrame l b r bytes .answer)
 notedText l b (readFrame r n) = []
+notedText l b (supplyFrame millivolts) = trackedText (trackSupplyFrame l b millivolts)
 
 abbrev pub afterNoted : Layout → Runner → Frame → Runner
 afterNoted l b (writeFrame r bytes) =
@@ -87,6 +93,8 @@ afterNoted l b (writeFrame r bytes) =
     runner (session (t .answer .gauge) (t .answer .notes)) (t .lent)
 afterNoted l b (readFrame r n) =
     runner (session (b .session .gauge) (nextLine (b .session .notes))) (b .image)
+afterNoted l b (supplyFrame millivolts) =
+    let t = trackSupplyFrame l b millivolts in runner (session (t .gauge) (t .notes)) (b .image)
 
 -- ---- one frame, replied to
 

@@ -6,23 +6,27 @@ use mathlib.Core.Path.{_≡_}
 use mathlib.Core.Logic.{_⊎_}
 use mathlib.Core.Bool.{true, cond}
 use mathlib.Core.List.{List, [], _∷_, _++_}
-use lib.Dec.{eqb}
+use lib.Dec.{eqb, leb}
 use lib.ListN.{length}
-use Rattle.flashrules.specs.Error.{protectedBlock, wrongChecksum}
+use Rattle.flashrules.specs.Error.{invalidArgument, protectedBlock, wrongChecksum}
 use Rattle.flashrules.specs.Layout.{fits}
 use Rattle.flashrules.specs.declared.layout.Layout.{Layout}
-use Rattle.gaugerules.specs.State.{bootSealed, powerOn}
+use Rattle.flashrules.specs.Image.{Bytes}
+use Rattle.hextext.specs.Hex.{hexLine}
+use Rattle.gaugerules.specs.State.{bootSealed, maxSupply, powerOn}
 use Rattle.gaugerules.specs.Write.{write}
+use Rattle.gaugerules.specs.Supply.{setSupply}
 use Rattle.gaugerules.specs.Script.{Device}
 use Rattle.gaugerules.specs.declared.state.Gauge.{Gauge}
 use Rattle.gaugerules.specs.declared.answer.Written.{Written}
 use Rattle.causerules.specs.History.{Step, writeSteps}
-use Rattle.causerules.specs.Cause.{reasonOf, cause}
+use Rattle.causerules.specs.Cause.{reasonOf, cause, fourBytes}
 use Rattle.causerules.specs.Laws.{holdsFor, gaveFor, Since}
 use Rattle.causerules.specs.declared.reason.Reason.{Reason}
-use Rattle.scriptrules.specs.Frame.{Frame, writeFrame, readFrame, linesOf}
+use Rattle.scriptrules.specs.Frame.{Frame, writeFrame, readFrame, supplyFrame, linesOf}
 use Rattle.scriptrules.specs.Reply.{afterFrame, afterFrames}
 use Rattle.scriptrules.specs.Replay.{poweredOn}
+use Rattle.scriptrules.specs.Laws.{AllSendable}
 use Rattle.scriptrules.specs.Why.{frameSteps, history, explanation, explanations}
 
 -- each frame is explained at its place in the script, by the history of all frames before it
@@ -35,19 +39,35 @@ ExplainedEach =
     ≡ explanations l d [] 1 fs
     ++ (explanation l d′ h line f ++ explanations l (afterFrame l d′ f) (h ++ frameSteps l d′ line f) (line + 1) gs)
 
--- how many writes of these frames are refused
-abbrev pub refusedWrites : Layout → Device → List Frame → ℕ
-refusedWrites l d [] = 0
-refusedWrites l d (writeFrame r bytes ∷ fs) =
-    cond (eqb (write l (d .image) (d .gauge) r bytes .answer .error) 0) 0 1
-    + refusedWrites l (afterFrame l d (writeFrame r bytes)) fs
-refusedWrites l d (readFrame r n ∷ fs) = refusedWrites l (afterFrame l d (readFrame r n)) fs
+-- 1 for a refusal
+abbrev pub refusals : ℕ → ℕ
+refusals e = cond (eqb e 0) 0 1
 
--- "one hexadecimal line a refused write"
+-- how many writes and supplies of these frames are refused
+abbrev pub refusedFrames : Layout → Device → List Frame → ℕ
+refusedFrames l d [] = 0
+refusedFrames l d (writeFrame r bytes ∷ fs) =
+    refusals (write l (d .image) (d .gauge) r bytes .answer .error)
+    + refusedFrames l (afterFrame l d (writeFrame r bytes)) fs
+refusedFrames l d (readFrame r n ∷ fs) = refusedFrames l (afterFrame l d (readFrame r n)) fs
+refusedFrames l d (supplyFrame millivolts ∷ fs) =
+    refusals (setSupply l (length (d .image)) (d .gauge) millivolts .error)
+    + refusedFrames l (afterFrame l d (supplyFrame millivolts)) fs
+
+-- "one hexadecimal line a refused write"; C-16: "lists a refused supply frame too"
 abbrev pub ExplainedCount : Type 0
 ExplainedCount =
     (l : Layout) (d : Device) (h : List Step) (line : ℕ) (fs : List Frame)
-    → length (linesOf (explanations l d h line fs)) ≡ refusedWrites l d fs
+    → length (linesOf (explanations l d h line fs)) ≡ refusedFrames l d fs
+
+-- C-16: powered on sealed, a supply frame behind any frames is explained exactly if it is above
+-- 4,500, and then by 1 and its own line
+abbrev pub ExplainedSupply : Type 0
+ExplainedSupply =
+    (l : Layout) (image : List ℕ) (fs : List Frame) (h : List Step) (line millivolts : ℕ)
+    → fits l (length image) ≡ true → Bytes image → AllSendable fs → let d = afterFrames l (poweredOn image) fs in
+    explanation l d h line (supplyFrame millivolts)
+    ≡ cond (leb millivolts maxSupply) [] (hexLine (invalidArgument ∷ fourBytes line))
 
 -- a write that comes after these frames, powered on sealed: its answer
 abbrev pub answerAfter : Layout → List ℕ → List Frame → ℕ → List ℕ → Written

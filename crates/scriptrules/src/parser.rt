@@ -4,6 +4,8 @@ pub const READ: u8 = 0;
 
 pub const WRITE: u8 = 1;
 
+pub const SUPPLY: u8 = 2;
+
 // The bytes of a frame at most, with its kind and its register.
 pub const MAX_FRAME: usize = 257;
 

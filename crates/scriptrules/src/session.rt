@@ -1,5 +1,5 @@
-// Reports: what a script puts out, a reply to each line, or a line for each refused write. Any
-// other number is taken as replies.
+// Reports: what a script puts out, a reply to each line, or a line for each refused write and
+// supply. Any other number is taken as replies.
 use causerules::notes::Notes;
 use gaugerules::state::Gauge;
 

@@ -10,7 +10,8 @@ use lib.Seq.{sets, sets-eq, take-at}
 use borrow.Author.Tests.{eq-eqb, ne-eqb}
 use Rattle.hextext.specs.Hex.{unhex}
 use Rattle.flashrules.specs.declared.layout.Layout.{Layout}
-use Rattle.scriptrules.specs.Frame.{writeFrame, readFrame, readKind, maxFrame, frameOf}
+use Rattle.scriptrules.specs.Frame.{writeFrame, readFrame, supplyFrame, readKind, supplyKind, maxFrame, frameOf}
+use Rattle.gaugerules.specs.Word.{word}
 use Rattle.scriptrules.specs.Parser.{isFrame}
 use Rattle.flashrules.specs.Outcome.{Outcome}
 use Rattle.scriptrules.specs.Session.{Runner}
@@ -71,9 +72,15 @@ module _ (line : List ℕ) (e : isFrame line ≡ true) where
           → z ≡ runFrame l report b (frameOf line) buffer at
       decoded-read k q = q ∙ rw (get 1, get 2, eq-eqb (getD (unhex line) 0 0) readKind (sym (get 0) ∙ k))
 
-      pub decoded-write : (n : ℕ) → (getD frame 0 0 ≡ readKind → ⊥) → n ≡ length (unhex line)
+      pub decoded-supply : (m : ℕ) → getD frame 0 0 ≡ supplyKind → m ≡ word (getD frame 2 0) (getD frame 1 0)
+          → z ≡ runFrame l report b (supplyFrame m) buffer at → z ≡ runFrame l report b (frameOf line) buffer at
+      decoded-supply m k e q =
+          let is : getD (unhex line) 0 0 ≡ supplyKind = sym (get 0) ∙ k in
+          q ∙ rw (e, get 1, get 2, is)
+
+      pub decoded-write : (n : ℕ) → (getD frame 0 0 ≡ readKind → ⊥) → (getD frame 0 0 ≡ supplyKind → ⊥) → n ≡ length (unhex line)
           → z ≡ runFrame l report b (writeFrame (getD frame 1 0) (take (n - 2) (drop 2 frame))) buffer at → z ≡ runFrame l report b (frameOf line) buffer at
-      decoded-write n k m q =
+      decoded-write n k j m q =
           let rest : take (n - 2) (drop 2 frame) ≡ drop 2 (unhex line)
           = rw (m, decoded) (front-rest (unhex line) (zeros (maxFrame - length (unhex line))) 2 (omega (arith, half-bytes, half-least))) in
-          q ∙ rw (rest, get 1, ne-eqb (getD (unhex line) 0 0) readKind (λ u. k (get 0 ∙ u)))
+          q ∙ rw (rest, get 1, ne-eqb (getD (unhex line) 0 0) readKind (λ u. k (get 0 ∙ u)), ne-eqb (getD (unhex line) 0 0) supplyKind (λ u. j (get 0 ∙ u)))

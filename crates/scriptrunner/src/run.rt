@@ -4,6 +4,7 @@ use flashrules::error::MALFORMED;
 use flashrules::error::SHORT_BUFFER;
 use flashrules::layout::Layout;
 use framerunner::report::run_read;
+use framerunner::report::run_supply;
 use framerunner::report::run_write;
 use hextext::LINE_FEED;
 use hextext::decode;
@@ -13,12 +14,14 @@ use scriptrules::answer::MAX_REPLY;
 use scriptrules::answer::Progress;
 use scriptrules::parser::MAX_FRAME;
 use scriptrules::parser::READ;
+use scriptrules::parser::SUPPLY;
 use scriptrules::session::Session;
 ghost use mathlib.Core.Path.{_≡_};
 ghost use mathlib.Core.Bool.{true};
 ghost use Prim.Native.Nat.{_-_, _≤_};
 ghost use lib.ListN.{length};
 ghost use Rattle.hextext.specs.Hex.{unhex};
+ghost use Rattle.gaugerules.specs.Word.{word};
 ghost use Rattle.scriptrules.specs.Frame.{maxFrame, frameOf};
 ghost use Rattle.scriptrules.specs.Parser.{isFrame};
 ghost use Rattle.scriptrules.specs.Reply.{maxReply};
@@ -50,6 +53,13 @@ fn frame_length(line: &[u8]) -> usize
     line.len() / 2
 }
 
+// A supply, high byte first.
+fn millivolts(high: u8, low: u8) -> u16
+    ensures { λ r. ⌜ r ≡ word low high ⌝ }
+{
+    256 * (high as u16) + (low as u16)
+}
+
 // A frame is run.
 fn run_frame(
     layout: Layout,
@@ -74,6 +84,17 @@ fn run_frame(
             session,
             frame[1],
             frame[2],
+            buffer,
+            at,
+        );
+    }
+    if frame[0] == SUPPLY {
+        return run_supply(
+            layout,
+            report,
+            &image[..],
+            session,
+            millivolts(frame[1], frame[2]),
             buffer,
             at,
         );

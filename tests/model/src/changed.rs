@@ -162,8 +162,8 @@ mod tests {
     fn a_write_refused_whole_answers_zero() {
         let mut gauge = with_two_edits();
         assert_eq!(commit(&mut gauge), 2);
-        assert_eq!(gauge.write(0x60, &[]), refused(Error::Span, 0));
-        assert_eq!(gauge.write(0x60, &[0; 33]), refused(Error::Span, 0));
+        assert_eq!(gauge.write(0x60, &[]), refused(Error::Argument, 0));
+        assert_eq!(gauge.write(0x60, &[0; 33]), refused(Error::Argument, 0));
         gauge.record.control = 2;
         assert_eq!(gauge.write(0x60, &[0]), refused(Error::Record, 0));
         gauge.image.pop();

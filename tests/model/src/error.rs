@@ -4,8 +4,8 @@
 #[derive(Clone, Copy, Debug, PartialEq, Eq)]
 #[repr(u8)]
 pub enum Error {
-    /// "n is 0 or r + n above 128"
-    Span = 1,
+    /// "n is 0 or r + n above 128"; C-16: "1 for a supply above 4,500"
+    Argument = 1,
     /// "register takes no writes"
     ReadOnly = 2,
     /// "0x3E or 0x61 while sealed"
@@ -36,6 +36,8 @@ pub enum Error {
     Record = 15,
     /// C-14: "Only full access may change keys."
     Keys = 16,
+    /// C-16: "17 for a commit on low supply"
+    Supply = 17,
     /// C-11: "18 where layouts differ"
     Layouts = 18,
 }

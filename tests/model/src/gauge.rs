@@ -5,6 +5,7 @@ use crate::error::Error;
 use crate::keys::key_bytes;
 use crate::layout::{checksum, Layout, BLOCK_LENGTH, INFO_CLASS, KEY_CLASS};
 use crate::record::{Boot, Loaded, Mode, Record, BLOCK_A};
+use crate::supply::{COMMIT_SUPPLY, MAX_SUPPLY};
 
 /// "r + n at most 128"
 const REGISTERS: usize = 128;
@@ -82,13 +83,29 @@ impl Gauge {
 
     /// "Order for a transaction: 10, 15, 1, 14, then byte by byte". The 14 is a read's own.
     fn judge(&self, register: u8, count: usize) -> Result<(), Error> {
+        self.judge_record()?;
+        if count == 0 || usize::from(register) + count > REGISTERS {
+            return Err(Error::Argument);
+        }
+        Ok(())
+    }
+
+    /// 10 and 15.
+    fn judge_record(&self) -> Result<(), Error> {
         self.layout.check_image(self.image.len())?;
         if !self.record.is_valid(&self.layout) {
             return Err(Error::Record);
         }
-        if count == 0 || usize::from(register) + count > REGISTERS {
-            return Err(Error::Span);
+        Ok(())
+    }
+
+    /// C-16: "Refusals: 10, 15, 1 for a supply above 4,500".
+    pub fn set_supply(&mut self, millivolts: u16) -> Result<(), Error> {
+        self.judge_record()?;
+        if millivolts > MAX_SUPPLY {
+            return Err(Error::Argument);
         }
+        self.record.supply = millivolts;
         Ok(())
     }
 
@@ -120,8 +137,8 @@ impl Gauge {
                     Mode::FullAccess => 0x0000,
                 };
             }
-            SEAL_WORD => self.record = Record::power_on(Boot::Sealed),
-            RESET_WORD => self.record = Record::power_on(self.record.boot),
+            SEAL_WORD => self.record.restart(Boot::Sealed),
+            RESET_WORD => self.record.restart(self.record.boot),
             _ => self.take_key_word(word)?,
         }
         Ok(())
@@ -189,6 +206,7 @@ impl Gauge {
         let mut after = self.image.clone();
         after[place].copy_from_slice(&self.record.window[..length]);
         self.check_keys(&after)?;
+        self.check_supply()?;
         self.image = after;
         Ok(())
     }
@@ -199,6 +217,14 @@ impl Gauge {
         let changes = key_bytes(&self.layout, &self.image)? != key_bytes(&self.layout, after)?;
         if self.record.mode == Mode::Unsealed && changes {
             return Err(Error::Keys);
+        }
+        Ok(())
+    }
+
+    /// C-16: "A commit under 2,700 is refused; 2,700 itself is accepted."
+    fn check_supply(&self) -> Result<(), Error> {
+        if self.record.supply < COMMIT_SUPPLY {
+            return Err(Error::Supply);
         }
         Ok(())
     }
@@ -306,14 +332,14 @@ pub mod tests {
     fn p5_span_of_a_read() {
         let gauge = gauge(Boot::Sealed);
         let mut buffer = [9; 2];
-        assert_eq!(gauge.read(0x7F, 2, &mut buffer), Err(Error::Span));
-        assert_eq!(gauge.read(0x7F, 0, &mut buffer), Err(Error::Span));
-        assert_eq!(gauge.read(0xFF, 255, &mut buffer), Err(Error::Span));
+        assert_eq!(gauge.read(0x7F, 2, &mut buffer), Err(Error::Argument));
+        assert_eq!(gauge.read(0x7F, 0, &mut buffer), Err(Error::Argument));
+        assert_eq!(gauge.read(0xFF, 255, &mut buffer), Err(Error::Argument));
         assert_eq!(buffer, [9, 9]);
         assert_eq!(gauge.read(0x7F, 1, &mut buffer), Ok(()));
         assert_eq!(buffer, [0, 9]);
         assert_eq!(gauge.read(0, 3, &mut buffer), Err(Error::Buffer));
-        assert_eq!(gauge.read(0, 0, &mut []), Err(Error::Span));
+        assert_eq!(gauge.read(0, 0, &mut []), Err(Error::Argument));
     }
 
     #[test]
@@ -403,7 +429,7 @@ pub mod tests {
         assert_eq!(invalid.write(0xFF, &[]), refused(Error::Record, 0));
         invalid.image.pop();
         assert_eq!(invalid.write(0xFF, &[]), refused(Error::Invalid, 0));
-        assert_eq!(gauge(Boot::Sealed).write(0x3E, &[]), refused(Error::Span, 0));
+        assert_eq!(gauge(Boot::Sealed).write(0x3E, &[]), refused(Error::Argument, 0));
         assert_eq!(gauge(Boot::Sealed).write(0x61, &[2]), refused(Error::Sealed, 0));
     }
 }

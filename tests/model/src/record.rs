@@ -1,6 +1,7 @@
 //! 01, "The gauge record": its members, power-on, and which records are valid.
 
 use crate::layout::{Layout, BLOCK_LENGTH, INFO_CLASS};
+use crate::supply::{MAX_SUPPLY, POWER_ON_SUPPLY};
 
 #[derive(Clone, Copy, Debug, PartialEq, Eq)]
 pub enum Mode {
@@ -43,6 +44,8 @@ pub struct Record {
     pub block: u8,
     pub loaded: Option<Loaded>,
     pub window: [u8; BLOCK_LENGTH],
+    /// C-16: "its supply in millivolts".
+    pub supply: u16,
 }
 
 impl Record {
@@ -60,13 +63,20 @@ impl Record {
             block: 0,
             loaded: None,
             window: [0; BLOCK_LENGTH],
+            supply: POWER_ON_SUPPLY,
         }
+    }
+
+    /// What 0x0020 and 0x0041 make of it: "record becomes that of power-on"; C-16: the supply is
+    /// "kept through sealing and reset".
+    pub fn restart(&mut self, boot: Boot) {
+        *self = Record { supply: self.supply, ..Record::power_on(boot) };
     }
 
     /// "A record is sound for a layout when its numbers are in range, a loaded block exists, with
     /// none loaded the window is zero, in full access no word waits, and a sealed record has
-    /// BlockDataControl 1 and nothing but a manufacturer block loaded." The types keep the other
-    /// numbers in range.
+    /// BlockDataControl 1 and nothing but a manufacturer block loaded." C-16: "Soundness gains the
+    /// range". The types keep the other numbers in range.
     pub fn is_valid(&self, layout: &Layout) -> bool {
         let loaded_right = match self.loaded {
             None => self.window == [0; BLOCK_LENGTH],
@@ -76,6 +86,7 @@ impl Record {
             }
         };
         self.control <= 1
+            && self.supply <= MAX_SUPPLY
             && loaded_right
             && (self.mode != Mode::FullAccess || self.pending.is_none())
             && (self.mode != Mode::Sealed || self.control == 1)
@@ -121,12 +132,16 @@ mod tests {
             Record { loaded: Some(BLOCK_A), window: [7; 32], ..sealed.clone() },
             Record { pending: Some(0x0020), class: 9, block: 200, ..sealed.clone() },
             Record { boot: Boot::Open, ..sealed.clone() },
+            Record { supply: 0, ..sealed.clone() },
+            Record { supply: 4_500, ..full.clone() },
         ];
         for record in good {
             assert!(record.is_valid(&layout()), "{record:?}");
         }
         let bad = [
             Record { control: 2, ..unsealed.clone() },
+            Record { supply: 4_501, ..unsealed.clone() },
+            Record { supply: 0xFFFF, ..full.clone() },
             Record { window: [1; 32], ..unsealed.clone() },
             Record { loaded: Some(Loaded { class: 48, block: 2 }), ..unsealed.clone() },
             Record { loaded: Some(Loaded { class: 49, block: 0 }), ..unsealed },

@@ -1,4 +1,4 @@
-//! 01, "The replay program": the frames of a script and the reply to each.
+//! 01, "The replay program", and C-16: the frames of a script and the reply to each.
 
 use crate::error::Error;
 use crate::gauge::Gauge;
@@ -11,14 +11,16 @@ pub const MAX_FRAME: usize = 2 + 255;
 pub enum Frame<'a> {
     Write { register: u8, bytes: &'a [u8] },
     Read { register: u8, count: u8 },
+    Supply { millivolts: u16 },
 }
 
 /// The frame of one line, its bytes kept in a lent buffer: "01, register, 0 to 255 bytes (write);
-/// 00, register, count (read)".
+/// 00, register, count (read)". C-16: "A new script frame, 02 and two bytes, high byte first".
 pub fn frame<'a>(line: &[u8], buffer: &'a mut [u8; MAX_FRAME]) -> Option<Frame<'a>> {
     match *decode(line, buffer)? {
         [1, register, ref bytes @ ..] => Some(Frame::Write { register, bytes }),
         [0, register, count] => Some(Frame::Read { register, count }),
+        [2, high, low] => Some(Frame::Supply { millivolts: u16::from_be_bytes([high, low]) }),
         _ => None,
     }
 }
@@ -37,7 +39,8 @@ pub fn first_bad_line(text: &[u8]) -> Option<usize> {
 }
 
 /// Runs one frame and appends its reply: "number and count taken, or 00 and the bytes read, or the
-/// number alone for a refused read". C-12: "The replay's write line gains that byte".
+/// number alone for a refused read". C-12: "The replay's write line gains that byte". C-16: "sets
+/// it and replies the number alone".
 pub fn answer(gauge: &mut Gauge, frame: Frame, reply: &mut Vec<u8>) {
     match frame {
         Frame::Write { register, bytes } => {
@@ -56,6 +59,9 @@ pub fn answer(gauge: &mut Gauge, frame: Frame, reply: &mut Vec<u8>) {
                 }
                 Err(error) => push_byte(reply, error.number()),
             }
+        }
+        Frame::Supply { millivolts } => {
+            push_byte(reply, gauge.set_supply(millivolts).err().map_or(0, Error::number));
         }
     }
     reply.push(b'\n');
@@ -77,9 +83,23 @@ mod tests {
             frame(b"00FF80", &mut buffer),
             Some(Frame::Read { register: 0xFF, count: 0x80 })
         );
-        for bad in
-            [&b""[..], b"01", b"00", b"0040", b"00400101", b"024001", b"FF4001", b"01400", b"01 40"]
-        {
+        let supply = |millivolts| Some(Frame::Supply { millivolts });
+        assert_eq!(frame(b"020A8C", &mut buffer), supply(2_700));
+        assert_eq!(frame(b"02FFFE", &mut buffer), supply(0xFFFE));
+        for bad in [
+            &b""[..],
+            b"01",
+            b"00",
+            b"0040",
+            b"00400101",
+            b"02",
+            b"020A",
+            b"020A8C00",
+            b"034001",
+            b"FF4001",
+            b"01400",
+            b"01 40",
+        ] {
             assert_eq!(frame(bad, &mut buffer), None);
         }
     }

@@ -1,6 +1,6 @@
 //! C-13, "Tell the operator why": what the tool prints for an image file and a script file. The
 //! whole history is kept, one entry a byte that was accepted, and searched backwards for each
-//! refused write.
+//! refused write. C-16: "C-13 lists a refused supply frame too".
 
 use crate::error::Error;
 use crate::gauge::Gauge;
@@ -50,6 +50,9 @@ impl History {
         match frame {
             Frame::Write { register, bytes } => self.write(register, bytes),
             Frame::Read { .. } => None,
+            Frame::Supply { millivolts } => {
+                self.gauge.set_supply(millivolts).err().map(|error| self.explain(error))
+            }
         }
     }
 
@@ -84,7 +87,8 @@ impl History {
             Error::NoClass => self.class_changed(),
             Error::NoBlock if record.general_access() => self.class_changed(),
             Error::Checksum => self.window_touched(),
-            // "For 1, 2 and 9 that is the line itself."; "for 5 otherwise, the line itself"
+            // "For 1, 2 and 9 that is the line itself."; "for 5 otherwise, the line itself"; C-16,
+            // of a supply and of 17: "for both names the line itself"
             _ => self.line,
         };
         let matching = checksum(&record.window);
@@ -175,6 +179,7 @@ mod tests {
     use super::*;
     use crate::gauge::tests::gauge;
     use crate::layout::Class;
+    use crate::script::answer;
 
     const SEAL: (&str, &str) = ("01002000", "");
     const RESET: (&str, &str) = ("01004100", "");
@@ -192,9 +197,7 @@ mod tests {
             let output = history.run(frame).map(printed).unwrap_or_default();
             let output = String::from_utf8(output).unwrap();
             assert_eq!(output.trim_end(), *expected, "line {}: {line}", history.line);
-            if let Frame::Write { register, bytes } = frame {
-                whole.write(register, bytes);
-            }
+            answer(&mut whole, frame, &mut Vec::new());
             assert_eq!(history.gauge.record, whole.record);
             assert_eq!(history.gauge.image, whole.image);
         }
@@ -423,6 +426,25 @@ mod tests {
         check(&[&reads[..], &[("0140", "0100000004")]].concat());
         check(&[&[("013F01", "")], &reads[..], &[("014000", "0700000001")]].concat());
         check(&[&reads[..], &[("013F0100", "0700000004")]].concat());
+    }
+
+    #[test]
+    fn a_refused_supply_and_17_name_the_line_itself() {
+        check(&[("021195", "0100000001"), ("02FFFF", "0100000002"), ("021194", "")]);
+        let low = [("013F02", ""), ("020A8B", ""), ("0140BC", "")];
+        let refused = [("01609E", "1100000004"), ("0140BC", ""), ("015FBC9D", "1100000006")];
+        check(&[&low[..], &refused, &[("020A8C", ""), ("01609D", "")]].concat());
+    }
+
+    #[test]
+    fn a_supply_is_a_line_and_leaves_every_reason() {
+        let low = ("020000", "");
+        check(&[low, ("013E30", "0300000000"), ("0160FF", "0600000000")]);
+        check(&[("013F01", ""), low, ("014000", "0700000001")]);
+        check(&[("013F02", ""), low, ("021195", "0100000003"), ("016000", "08000000019F")]);
+        check_open(&[("013E31", ""), low, ("013F00", "0400000004")]);
+        check_open(&[("013E30", ""), low, SEAL, ("013E30", "0300000006")]);
+        check_open(&[("013E3000", ""), ("016100", ""), low, ("014000", "0600000005")]);
     }
 
     #[test]

@@ -5,8 +5,9 @@ use model::error::Error;
 use model::gauge::Gauge;
 use model::keys::{key_bytes, KEYS_LENGTH};
 use model::layout::{BLOCK_LENGTH, INFO_CLASS, KEY_CLASS};
-use model::record::{Loaded, Mode};
+use model::record::{Boot, Loaded, Mode, Record};
 use model::script::{frame, Frame, MAX_FRAME};
+use model::supply::COMMIT_SUPPLY;
 use model::text;
 use scripts::files::Files;
 use std::ops::Range;
@@ -16,6 +17,9 @@ const WINDOW: usize = 0x40;
 const WORD_MADE: usize = 0x01;
 const COMMIT: usize = 0x60;
 const CONTROL: usize = 0x61;
+/// The low bytes of the words 0x0020 and 0x0041.
+const SEAL: u8 = 0x20;
+const RESET: u8 = 0x41;
 const BLOCK_B: Loaded = Loaded { class: INFO_CLASS, block: 1 };
 const BLOCK_C: Loaded = Loaded { class: INFO_CLASS, block: 2 };
 const KEY_BLOCK: Loaded = Loaded { class: KEY_CLASS, block: 0 };
@@ -28,12 +32,18 @@ struct Line<'a> {
     keys: Vec<u8>,
     /// The word that it found waiting.
     pending: Option<u16>,
+    /// The supply that it met.
+    supply: u16,
+    /// The low byte of the last word that sealed or reset the gauge since the supply was set.
+    restarted: Option<u8>,
+    /// What a supply frame asks for.
+    millivolts: Option<u16>,
     /// The gauge that it left.
     gauge: &'a Gauge,
     error: Option<Error>,
-    /// The registers whose bytes a write has taken; none of a read.
+    /// The registers whose bytes a write has taken; none of a read or a supply.
     taken: Range<usize>,
-    /// How many bytes of the image a write has changed; 0 of a read.
+    /// How many bytes of the image a write has changed; 0 of a read or a supply.
     changed: usize,
 }
 
@@ -43,9 +53,9 @@ type Event = (&'static str, fn(&Line) -> bool);
 /// The event of a whole case, before those of its lines.
 const REFUSED_FILE: &str = "output 0A";
 
-/// Refusals 1 to 9 and 16 are those of spans and bytes.
+/// Refusals 1 to 9, 16 and 17 are those of spans, bytes and supplies.
 const OF_LINES: &[Event] = &[
-    ("refusal 1", |line| line.is_refused(Error::Span)),
+    ("refusal 1", |line| line.is_refused(Error::Argument)),
     ("refusal 2", |line| line.is_refused(Error::ReadOnly)),
     ("refusal 3", |line| line.is_refused(Error::Sealed)),
     ("refusal 4", |line| line.is_refused(Error::NoClass)),
@@ -55,6 +65,7 @@ const OF_LINES: &[Event] = &[
     ("refusal 8", |line| line.is_refused(Error::Checksum)),
     ("refusal 9", |line| line.is_refused(Error::Control)),
     ("refusal 16", |line| line.is_refused(Error::Keys)),
+    ("refusal 17", |line| line.is_refused(Error::Supply)),
     ("gauge unsealed", |line| line.passes(Mode::Sealed, Mode::Unsealed)),
     ("full access reached", |line| line.passes(Mode::Unsealed, Mode::FullAccess)),
     ("wrong key, in its first byte alone", |line| line.wrong_key_bytes() == [0]),
@@ -98,6 +109,38 @@ const OF_LINES: &[Event] = &[
     ("full access, key changed", |line| {
         line.has_key_block(Mode::FullAccess) && line.keys != line.stored_keys()
     }),
+    ("refusal 17 while sealed", |line| line.is_17() && line.mode == Mode::Sealed),
+    ("refusal 17, unsealed", |line| line.is_17() && line.mode == Mode::Unsealed),
+    ("refusal 17, full access", |line| line.is_17() && line.mode == Mode::FullAccess),
+    ("refusal 17 at 2,699", |line| line.is_17() && line.supply == 2_699),
+    ("refusal 17 at 0", |line| line.is_17() && line.supply == 0),
+    ("refusal 17 with window bytes before", |line| line.is_17() && !line.taken.is_empty()),
+    ("refusal 17, nothing to change", |line| line.is_17() && !line.is_edited()),
+    ("refusal 17, sealed since the supply", |line| line.is_17() && line.restarted == Some(SEAL)),
+    ("refusal 17, reset since the supply", |line| line.is_17() && line.restarted == Some(RESET)),
+    ("flash changed at 2,700", |line| line.changed > 0 && line.supply == 2_700),
+    ("flash changed at 4,500", |line| line.changed > 0 && line.supply == 4_500),
+    ("low supply, refusal 1", |line| line.is_low(Error::Argument) && line.millivolts.is_none()),
+    ("low supply, refusal 2", |line| line.is_low(Error::ReadOnly)),
+    ("low supply, refusal 3", |line| line.is_low(Error::Sealed)),
+    ("low supply, refusal 4", |line| line.is_low(Error::NoClass)),
+    ("low supply, refusal 5", |line| line.is_low(Error::NoBlock)),
+    ("low supply, refusal 6 of a commit", |line| line.is_low_commit(Error::NotLoaded)),
+    ("low supply, refusal 7 of a commit", |line| line.is_low_commit(Error::BlockA)),
+    ("low supply, refusal 8", |line| line.is_low(Error::Checksum)),
+    ("low supply, refusal 9", |line| line.is_low(Error::Control)),
+    ("low supply, refusal 16", |line| line.is_low(Error::Keys)),
+    ("supply 0", |line| line.sets(0)),
+    ("supply 2,699", |line| line.sets(2_699)),
+    ("supply 2,700", |line| line.sets(2_700)),
+    ("supply 4,500", |line| line.sets(4_500)),
+    ("supply 4,501 refused", |line| line.refuses(4_501)),
+    ("supply 0xFFFF refused", |line| line.refuses(0xFFFF)),
+    ("supply refused while it is low", |line| line.is_low(Error::Argument) && line.asks()),
+    ("supply while sealed", |line| line.asks() && line.mode == Mode::Sealed),
+    ("supply, unsealed", |line| line.asks() && line.mode == Mode::Unsealed),
+    ("supply, full access", |line| line.asks() && line.mode == Mode::FullAccess),
+    ("supply while a key word waits", |line| line.asks() && line.pending.is_some()),
 ];
 
 pub static EVENTS: LazyLock<Vec<&str>> = LazyLock::new(|| {
@@ -114,33 +157,51 @@ pub fn count(files: &Files, times: &mut [usize]) -> usize {
     };
     let mut buffer = [0; MAX_FRAME];
     let mut lines = 0;
+    let mut restarted = None;
     for line in text::lines(script).expect("a valid script") {
         lines += 1;
-        let line = run(&mut gauge, frame(line, &mut buffer).expect("a valid script"));
+        let frame = frame(line, &mut buffer).expect("a valid script");
+        let low = low_byte(&gauge, frame);
+        let line = run(&mut gauge, frame, restarted);
         assert!(line.is_in_bounds(), "the model counts {} changed bytes", line.changed);
         for ((_, is_met), count) in OF_LINES.iter().zip(&mut *of_lines) {
             *count += usize::from(is_met(&line));
+        }
+        if line.asks() && line.error.is_none() {
+            restarted = None;
+        } else if line.is_restart() {
+            restarted = Some(low);
         }
     }
     lines
 }
 
-fn run<'a>(gauge: &'a mut Gauge, frame: Frame) -> Line<'a> {
-    let mode = gauge.record.mode;
+fn run<'a>(gauge: &'a mut Gauge, frame: Frame, restarted: Option<u8>) -> Line<'a> {
+    let Record { mode, pending, supply, .. } = gauge.record;
     let keys = stored_keys(gauge).to_vec();
-    let pending = gauge.record.pending;
-    match frame {
+    let mut millivolts = None;
+    let (error, taken, changed) = match frame {
         Frame::Write { register, bytes } => {
             let written = gauge.write(register, bytes);
             let first = usize::from(register);
-            let taken = first..first + written.accepted;
-            let (error, changed) = (written.error, written.changed);
-            Line { mode, keys, pending, gauge, error, taken, changed }
+            (written.error, first..first + written.accepted, written.changed)
         }
         Frame::Read { register, count } => {
-            let error = gauge.read(register, usize::from(count), &mut [0; 255]).err();
-            Line { mode, keys, pending, gauge, error, taken: 0..0, changed: 0 }
+            (gauge.read(register, usize::from(count), &mut [0; 255]).err(), 0..0, 0)
         }
+        Frame::Supply { millivolts: asked } => {
+            millivolts = Some(asked);
+            (gauge.set_supply(asked).err(), 0..0, 0)
+        }
+    };
+    Line { mode, keys, pending, supply, restarted, millivolts, gauge, error, taken, changed }
+}
+
+/// The low byte of the word that a frame may make.
+fn low_byte(gauge: &Gauge, frame: Frame) -> u8 {
+    match frame {
+        Frame::Write { register: 0x00, bytes: [low, ..] } => *low,
+        _ => gauge.record.low,
     }
 }
 
@@ -151,6 +212,41 @@ fn stored_keys(gauge: &Gauge) -> &[u8] {
 impl Line<'_> {
     fn is_refused(&self, error: Error) -> bool {
         self.error == Some(error)
+    }
+
+    fn is_17(&self) -> bool {
+        self.is_refused(Error::Supply)
+    }
+
+    /// Whether it met a supply too low for a commit and was refused like this.
+    fn is_low(&self, error: Error) -> bool {
+        self.supply < COMMIT_SUPPLY && self.is_refused(error)
+    }
+
+    /// The same of its byte for 0x60.
+    fn is_low_commit(&self, error: Error) -> bool {
+        self.is_low(error) && self.taken.end == COMMIT
+    }
+
+    /// Whether it is a supply frame.
+    fn asks(&self) -> bool {
+        self.millivolts.is_some()
+    }
+
+    fn sets(&self, millivolts: u16) -> bool {
+        self.millivolts == Some(millivolts) && self.error.is_none()
+    }
+
+    fn refuses(&self, millivolts: u16) -> bool {
+        self.millivolts == Some(millivolts) && self.is_refused(Error::Argument)
+    }
+
+    /// Whether it obeyed 0x0020 or 0x0041: what the gauge is then, it is but for its supply by
+    /// nothing else.
+    fn is_restart(&self) -> bool {
+        let record = &self.gauge.record;
+        let fresh = Record { supply: record.supply, ..Record::power_on(Boot::Sealed) };
+        self.taken.contains(&WORD_MADE) && *record == fresh
     }
 
     fn passes(&self, from: Mode, to: Mode) -> bool {

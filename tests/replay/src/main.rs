@@ -19,7 +19,7 @@ fn main() -> ExitCode {
     let comparison = Comparison {
         name: "compare-replay",
         kinds: &KINDS,
-        cases: 3_200,
+        cases: 3_400,
         events: &events::EVENTS,
         floor: 200,
         lines: "script lines answered",

@@ -18,20 +18,30 @@ fn digits(random: &mut Random, bytes: usize) -> String {
     (0..bytes).map(|_| format!("{:02X}", random.byte())).collect()
 }
 
-/// A frame that is neither a write nor a read.
+/// A frame that is neither a write nor a read nor a supply.
 pub fn unknown_type(random: &mut Random, flash: &Flash) -> Vec<u8> {
-    let any = random.byte().max(2);
-    let kind = random.pick(&[2, 2, 2, 3, 0x10, 0x11, 0x80, 0xFF, any]);
+    let any = random.byte().max(3);
+    let kind = random.pick(&[3, 3, 3, 4, 0x10, 0x11, 0x12, 0x20, 0x80, 0xFF, any]);
     let count = random.pick(&[0, 1, 2, 2, 2, 3, 4]);
     let rest = digits(random, count);
     with_line(random, flash, format!("{kind:02X}{rest}\n").as_bytes())
 }
 
-/// A read without a count, or with a byte after it.
-pub fn read_length(random: &mut Random, flash: &Flash) -> Vec<u8> {
+/// A frame of this type that has not two bytes behind it.
+fn not_three_bytes(random: &mut Random, flash: &Flash, kind: &str) -> Vec<u8> {
     let count = random.pick(&[0, 1, 1, 3, 3, 4, 255, 256]);
     let rest = digits(random, count);
-    with_line(random, flash, format!("00{rest}\n").as_bytes())
+    with_line(random, flash, format!("{kind}{rest}\n").as_bytes())
+}
+
+/// A read without a count, or with a byte after it.
+pub fn read_length(random: &mut Random, flash: &Flash) -> Vec<u8> {
+    not_three_bytes(random, flash, "00")
+}
+
+/// A supply with a byte too few, or too many.
+pub fn supply_length(random: &mut Random, flash: &Flash) -> Vec<u8> {
+    not_three_bytes(random, flash, "02")
 }
 
 /// A write without a register.
@@ -48,7 +58,15 @@ pub fn write_too_long(random: &mut Random, flash: &Flash) -> Vec<u8> {
 
 /// An odd number of digits.
 pub fn odd_digits(random: &mut Random, flash: &Flash) -> Vec<u8> {
-    let line = random.pick(&[&b"0\n"[..], b"1\n", b"010\n", b"00000\n", b"01400\n", b"0140000\n"]);
+    let line = random.pick(&[
+        &b"0\n"[..],
+        b"1\n",
+        b"010\n",
+        b"00000\n",
+        b"01400\n",
+        b"0140000\n",
+        b"020A8\n",
+    ]);
     with_line(random, flash, line)
 }
 
@@ -59,7 +77,9 @@ pub fn late_bad_line(random: &mut Random, flash: &Flash) -> Vec<u8> {
         &b"0\n"[..],
         b"\n",
         b"0140\r\n",
-        b"024001\n",
+        b"024001FF\n",
+        b"0240\n",
+        b"034001\n",
         b"0140",
         b"014a\n",
         b"01\n",

@@ -87,6 +87,7 @@ const GOOD: &[Row] = &[
     row(6, "seal after loading", Good, |r, _| on_openable(r, good::seal_after_loading)),
     row(6, "new keys", Good, |r, _| on_openable(r, good::rekey)),
     row(12, "key blocks", Good, |r, _| on(r, flash::openable_with_key_blocks, good::key_blocks)),
+    row(18, "supply", Good, |r, _| on(r, flash::openable_with_key_blocks, good::supply)),
     row(6, "spans", Good, |r, _| on_any(r, good::spans)),
     row(14, "mixed", Good, |r, _| on_any(r, good::mixed)),
     row(2, "longest image", Good, |r, _| on(r, flash::longest_text, good::general)),
@@ -123,6 +124,7 @@ const BAD: &[Row] = &[
     // Scripts with one frame that is none
     row(2, "script: unknown type", Bad, |r, _| on_any(r, bad::unknown_type)),
     row(2, "script: read length", Bad, |r, _| on_any(r, bad::read_length)),
+    row(2, "script: supply length", Bad, |r, _| on_any(r, bad::supply_length)),
     row(1, "script: lone write", Bad, |r, _| on_any(r, bad::lone_write)),
     row(2, "script: write too long", Bad, |r, _| on_any(r, bad::write_too_long)),
     row(1, "script: odd digits", Bad, |r, _| on_any(r, bad::odd_digits)),

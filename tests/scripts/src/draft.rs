@@ -37,6 +37,13 @@ impl<'a> Draft<'a> {
         self.frame(&[0, register, count]);
     }
 
+    /// Accepted or not.
+    pub fn supply(&mut self, millivolts: u16) {
+        let _ = self.gauge.set_supply(millivolts);
+        let [high, low] = millivolts.to_be_bytes();
+        self.frame(&[2, high, low]);
+    }
+
     fn frame(&mut self, bytes: &[u8]) {
         push_bytes(&mut self.text, bytes);
         self.text.push(b'\n');

@@ -2,7 +2,7 @@
 
 use crate::draft::Draft;
 use crate::moves::{self, play, step, Moves};
-use crate::moves::{INFO, KEYS, KEY_BLOCKS, REKEY, SPANS, TRANSFER, WORDS};
+use crate::moves::{INFO, KEYS, KEY_BLOCKS, REKEY, SPANS, SUPPLY, TRANSFER, WORDS};
 use generator::flash::Flash;
 use generator::random::Random;
 use model::layout::checksum;
@@ -10,6 +10,9 @@ use model::layout::checksum;
 /// The sizes at which a program that reads in pieces is likely to cut; smaller powers of two divide
 /// it.
 pub const PIECE: usize = 65_536;
+
+/// All that a script can do.
+const ALL: &[&Moves] = &[WORDS, KEYS, TRANSFER, TRANSFER, INFO, SPANS, REKEY, SUPPLY];
 
 /// Moves of these tables from power-on.
 pub fn from_power_on(
@@ -49,6 +52,11 @@ pub fn key_blocks(random: &mut Random, flash: &Flash) -> Vec<u8> {
     from_power_on(random, flash, &[KEY_BLOCKS], lines)
 }
 
+pub fn supply(random: &mut Random, flash: &Flash) -> Vec<u8> {
+    let lines = random.between(20, 200);
+    from_power_on(random, flash, &[SUPPLY, SUPPLY, SUPPLY, KEYS, TRANSFER, INFO], lines)
+}
+
 pub fn spans(random: &mut Random, flash: &Flash) -> Vec<u8> {
     let lines = random.between(20, 200);
     from_power_on(random, flash, &[SPANS, SPANS, TRANSFER, INFO], lines)
@@ -56,7 +64,7 @@ pub fn spans(random: &mut Random, flash: &Flash) -> Vec<u8> {
 
 pub fn mixed(random: &mut Random, flash: &Flash) -> Vec<u8> {
     let lines = random.pick(&[2, 5, 20, 100, 300]);
-    from_power_on(random, flash, &[WORDS, KEYS, TRANSFER, TRANSFER, INFO, SPANS, REKEY], lines)
+    from_power_on(random, flash, ALL, lines)
 }
 
 /// Unsealed, BlockDataControl 0.
@@ -97,7 +105,7 @@ pub fn long(random: &mut Random, flash: &Flash) -> Vec<u8> {
     let length = random.pick(&[1, 1, 2, 2, 16]) * PIECE + random.between(1, 5_000);
     let mut draft = Draft::new(random, flash);
     while draft.text.len() < length {
-        step(&mut draft, &[WORDS, KEYS, TRANSFER, TRANSFER, INFO, SPANS, REKEY]);
+        step(&mut draft, ALL);
     }
     draft.text
 }

@@ -70,6 +70,16 @@ pub const REKEY: &Moves = &[(4, rekey), (1, near_key), (1, seal), (1, full_acces
 /// The block of the keys and those behind it.
 pub const KEY_BLOCKS: &Moves = &[(8, key_block), (1, rekey), (1, seal), (1, look)];
 
+/// The supply, and commits on it.
+pub const SUPPLY: &Moves = &[
+    (8, set_supply),
+    (6, commit_on_supply),
+    (6, refused_on_low_supply),
+    (4, low_supply_restarted),
+    (2, supply_between_key_words),
+    (1, look),
+];
+
 /// One move of one of these tables.
 pub fn step(draft: &mut Draft, tables: &[&Moves]) {
     let table = draft.random.pick(tables);
@@ -420,6 +430,162 @@ fn key_block_places(draft: &mut Draft) -> Vec<usize> {
         7 => vec![one, behind],
         _ => (one..=behind).collect(),
     }
+}
+
+// The supply
+
+/// Any number of two bytes, mostly one at an end of a range or beside it.
+pub fn set_supply(draft: &mut Draft) {
+    let any = draft.random.number() as u16;
+    let ends = [0, 2_699, 2_700, 2_701, 3_600, 4_499, 4_500, 4_501, 0xFFFF];
+    let end = draft.random.pick(&ends);
+    // 2,700 with its bytes exchanged is far above the range
+    let millivolts = draft.random.pick(&[end, end, end, any, any % 4_501, 4_500, 0x8C0A]);
+    draft.supply(millivolts);
+}
+
+/// Under 2,700.
+pub fn low_supply(draft: &mut Draft) {
+    let any = draft.random.below(2_700) as u16;
+    let millivolts = draft.random.pick(&[0, 2_450, 2_699, 2_699, any]);
+    draft.supply(millivolts);
+}
+
+/// A block that can be edited, loaded as the mode lets it, with a commit that would store it.
+fn commit_on_supply(draft: &mut Draft) {
+    load_editable(draft);
+    if draft.random.chance(70) {
+        edit(draft);
+    }
+    let millivolts = draft.random.pick(&[0, 2_699, 2_700, 2_700, 4_500]);
+    draft.supply(millivolts);
+    draft.write(0x60, &[checksum(&draft.gauge.record.window)]);
+    if draft.random.chance(50) {
+        // window and loading stay, so that it can be tried again
+        set_supply(draft);
+        draft.write(0x60, &[checksum(&draft.gauge.record.window)]);
+    }
+}
+
+fn load_editable(draft: &mut Draft) {
+    if draft.gauge.record.general_access() {
+        return load(draft);
+    }
+    let block = draft.random.pick(&[2, 3]);
+    draft.write(0x3F, &[block]);
+}
+
+/// What is refused for another reason, on a low supply: two of them, sometimes with a supply that
+/// is none before.
+fn refused_on_low_supply(draft: &mut Draft) {
+    low_supply(draft);
+    if draft.random.chance(20) {
+        let above = draft.random.pick(&[4_501, 0xFFFF]);
+        draft.supply(above);
+    }
+    for _ in 0..2 {
+        let next = draft.random.pick(&[
+            span_end as Move,
+            other_register,
+            sealed_register,
+            unknown_class,
+            unknown_block,
+            none_loaded,
+            block_a,
+            wrong_checksum,
+            invalid_control,
+            changed_key,
+        ]);
+        next(draft);
+    }
+    if draft.random.chance(40) {
+        set_supply(draft);
+    }
+}
+
+fn sealed_register(draft: &mut Draft) {
+    if draft.mode() != Mode::Sealed {
+        draft.word(0x0020);
+    }
+    let register = draft.random.pick(&[0x3E, 0x61]);
+    draft.write(register, &[0]);
+}
+
+/// A commit with another key, unsealed.
+fn changed_key(draft: &mut Draft) {
+    if draft.mode() == Mode::FullAccess {
+        draft.word(0x0020);
+    }
+    draft.open_with_control(0);
+    draft.write(0x3E, &[KEY_CLASS, 0]);
+    let place = draft.random.below(KEYS_LENGTH);
+    let other = draft.gauge.record.window[place] ^ (1 << draft.random.below(8));
+    draft.write(0x40 + place as u8, &[other]);
+    draft.write(0x60, &[checksum(&draft.gauge.record.window)]);
+}
+
+fn unknown_class(draft: &mut Draft) {
+    draft.open_with_control(0);
+    let classes = &draft.gauge.layout.classes;
+    let unknown = (0..=0xFF).find(|id| classes.iter().all(|class| class.id != *id));
+    draft.write(0x3E, &[unknown.expect("32 classes at most"), 0]);
+}
+
+fn unknown_block(draft: &mut Draft) {
+    draft.write(0x3F, &[0xFF]);
+}
+
+fn invalid_control(draft: &mut Draft) {
+    draft.open_with_control(2);
+}
+
+fn none_loaded(draft: &mut Draft) {
+    if draft.mode() == Mode::Sealed {
+        draft.word(0x0020);
+    } else {
+        set_class(draft);
+    }
+    draft.write(0x60, &[0xFF]);
+}
+
+/// Block A of a sealed gauge.
+fn block_a(draft: &mut Draft) {
+    if draft.mode() != Mode::Sealed {
+        draft.word(0x0020);
+    }
+    draft.write(0x3F, &[1]);
+    draft.write(0x60, &[checksum(&draft.gauge.record.window)]);
+}
+
+fn wrong_checksum(draft: &mut Draft) {
+    load_editable(draft);
+    let wrong = checksum(&draft.gauge.record.window) ^ (1 << draft.random.below(8));
+    draft.write(0x60, &[wrong]);
+}
+
+/// A low supply before 0x0020 or 0x0041, and a commit after it.
+fn low_supply_restarted(draft: &mut Draft) {
+    if draft.random.chance(50) {
+        draft.open_with_control(0);
+    }
+    low_supply(draft);
+    let word = draft.random.pick(&[0x0020, 0x0041]);
+    draft.word(word);
+    if draft.random.chance(40) {
+        draft.open_with_control(0);
+    }
+    load_editable(draft);
+    change_loaded(draft);
+    draft.write(0x60, &[checksum(&draft.gauge.record.window)]);
+}
+
+/// The word that waits goes on waiting.
+fn supply_between_key_words(draft: &mut Draft) {
+    let ([a, b], _) = wanted_and_other(draft);
+    draft.word(a);
+    set_supply(draft);
+    draft.word(b);
+    status(draft);
 }
 
 // Registers, spans, counts

@@ -31,18 +31,21 @@ struct Past {
     refused: Vec<(u32, u8)>,
     /// The line of the first refused read.
     refused_read: Option<u32>,
+    /// The line of the last supply that was set.
+    supply: Option<u32>,
 }
 
-/// A refused write.
+/// A refused write or supply.
 struct Refused<'a> {
     /// With this line in it.
     past: &'a Past,
     refusal: Refusal,
+    is_supply: bool,
 }
 
 type IsMet = fn(&Refused) -> bool;
 
-/// The events of a whole case, before those of its refused writes.
+/// The events of a whole case, before those of its refusals.
 const OF_CASES: [&str; 2] = ["output 0A", "nothing refused"];
 
 /// An event of any refusal, and whether a refused write meets it.
@@ -51,19 +54,26 @@ const OF_ANY: &[(&str, IsMet)] = &[
     ("cause above line 255", |write| write.cause() > 255),
 ];
 
-use Error::{BlockA, Checksum, Control, Keys, NoBlock, NoClass, NotLoaded, ReadOnly, Sealed, Span};
+use Error::Supply;
+use Error::{
+    Argument, BlockA, Checksum, Control, Keys, NoBlock, NoClass, NotLoaded, ReadOnly, Sealed,
+};
 
 /// An event of one refusal.
 const OF_ONE: &[(&str, Error, IsMet)] = &[
-    ("1, the line itself", Span, |_| true),
+    ("1, the line itself", Argument, |write| !write.is_supply),
+    ("1, a supply's own line", Argument, |write| write.is_supply),
     ("2, the line itself", ReadOnly, |_| true),
     ("9, the line itself", Control, |_| true),
     ("16, window written before", Keys, |write| !write.has_own_window()),
     ("16, window written by the line itself", Keys, |write| write.has_own_window()),
+    ("17, window written before", Supply, |write| !write.has_own_window()),
+    ("17, window written by the line itself", Supply, |write| write.has_own_window()),
     ("3, sealed since power-on", Sealed, |write| write.cause() == 0),
     ("3, sealed by 0x0020", Sealed, |write| write.is_by(is_seal)),
     ("3, sealed by 0x0041", Sealed, |write| write.is_by(is_reset)),
     ("3, sealed again since", Sealed, |write| write.has_since(starts_anew)),
+    ("3, supply set since", Sealed, |write| write.has_supply_since()),
     ("6, none loaded since power-on", NotLoaded, |write| write.cause() == 0),
     ("6, unloaded by 0x3E", NotLoaded, |write| write.is_by(|e| e.register == CLASS && unloads(e))),
     ("6, unloaded by 0x61", NotLoaded, |write| write.is_by(|e| e.register == CONTROL)),
@@ -73,11 +83,13 @@ const OF_ONE: &[(&str, Error, IsMet)] = &[
     ("6, unloaded again since", NotLoaded, |write| write.has_since(unloads_again)),
     ("6, load refused since", NotLoaded, |write| write.has_refused_since(BLOCK)),
     ("6, mode changed since", NotLoaded, |write| write.has_since(changes_mode)),
+    ("6, supply set since", NotLoaded, |write| write.has_supply_since()),
     ("7, A loaded before", BlockA, |write| !write.is_own()),
     ("7, A loaded by the line itself", BlockA, |write| write.is_own()),
     ("7, A loaded over B or C", BlockA, |write| write.is_by(|e| e.before.loaded.is_some())),
     ("7, A loaded over A since", BlockA, |write| write.has_since(loads_a_over_a)),
     ("7, load refused since", BlockA, |write| write.has_refused_since(BLOCK)),
+    ("7, supply set since", BlockA, |write| write.has_supply_since()),
     ("4, class 0 since power-on", NoClass, |write| write.cause() == 0),
     ("4, class set before", NoClass, |write| write.is_by_class_before()),
     ("4, class set by the line itself", NoClass, |write| write.is_own()),
@@ -85,6 +97,7 @@ const OF_ONE: &[(&str, Error, IsMet)] = &[
     ("4, class set to 0 by 0x0041", NoClass, |write| write.is_by_class_of(RESET)),
     ("4, same class set since", NoClass, |write| write.has_since(sets_same_class)),
     ("4, sealed or reset since", NoClass, |write| write.has_since(starts_anew)),
+    ("4, supply set since", NoClass, |write| write.has_supply_since()),
     ("5, class 0 since power-on", NoBlock, |write| write.cause() == 0),
     ("5, class set before", NoBlock, |write| write.is_by_class_before()),
     ("5, class set by the line itself", NoBlock, |write| write.is_general() && write.is_own()),
@@ -92,6 +105,7 @@ const OF_ONE: &[(&str, Error, IsMet)] = &[
     ("5, class set to 0 by 0x0041", NoBlock, |write| write.is_by_class_of(RESET)),
     ("5, same class set since", NoBlock, |write| write.has_since(sets_same_class)),
     ("5, sealed or reset since", NoBlock, |write| write.has_since(starts_anew)),
+    ("5, supply set since", NoBlock, |write| write.has_supply_since()),
     ("5 while sealed", NoBlock, |write| write.is_sealed()),
     ("5 open, BlockDataControl 1", NoBlock, |write| !write.is_sealed() && !write.is_general()),
     ("8, loaded before", Checksum, |write| !write.is_own() && write.is_by_load()),
@@ -104,6 +118,7 @@ const OF_ONE: &[(&str, Error, IsMet)] = &[
     ("8, load refused since", Checksum, |write| write.has_refused_since(BLOCK)),
     ("8, refused with 8 since", Checksum, |write| write.has_refused_since(COMMIT)),
     ("8, mode changed since", Checksum, |write| write.has_since(changes_mode)),
+    ("8, supply set since", Checksum, |write| write.has_supply_since()),
 ];
 
 pub static EVENTS: LazyLock<Vec<&str>> = LazyLock::new(|| {
@@ -112,20 +127,22 @@ pub static EVENTS: LazyLock<Vec<&str>> = LazyLock::new(|| {
     OF_CASES.into_iter().chain(of_any).chain(of_one).collect()
 });
 
-/// Counts the events of one case and answers the number of its refused writes.
+/// Counts the events of one case and answers the number of its refused writes and supplies.
 pub fn count(files: &Files, times: &mut [usize]) -> usize {
     let (of_case, of_writes) = times.split_at_mut(OF_CASES.len());
     let Some((gauge, script)) = files.run() else {
         of_case[0] += 1;
         return 0;
     };
-    let mut past = Past { history: History::new(gauge), refused: Vec::new(), refused_read: None };
+    let history = History::new(gauge);
+    let mut past = Past { history, refused: Vec::new(), refused_read: None, supply: None };
     let mut buffer = [0; MAX_FRAME];
     let mut explained = 0;
     for line in text::lines(script).expect("a valid script") {
         let frame = frame(line, &mut buffer).expect("a valid script");
         if let Some(refusal) = past.run(frame) {
-            Refused { past: &past, refusal }.count(of_writes);
+            let is_supply = matches!(frame, Frame::Supply { .. });
+            Refused { past: &past, refusal, is_supply }.count(of_writes);
             explained += 1;
         }
     }
@@ -139,6 +156,7 @@ impl Past {
         match (frame, refusal) {
             (Frame::Read { register, count }, _) => self.see_read(register, count),
             (Frame::Write { register, .. }, Some(refusal)) => self.see_refused(register, refusal),
+            (Frame::Supply { .. }, None) => self.supply = Some(self.history.line),
             _ => {}
         }
         refusal
@@ -153,7 +171,7 @@ impl Past {
 
     /// A write from this register; 1 refuses no byte.
     fn see_refused(&mut self, register: u8, refusal: Refusal) {
-        if refusal.error != Span {
+        if refusal.error != Argument {
             let accepted = self.entries_of(self.history.line).len();
             self.refused.push((self.history.line, register + accepted as u8));
         }
@@ -227,6 +245,11 @@ impl Refused<'_> {
         later.any(|entry| entry.0 < line && entry.1 == register)
     }
 
+    /// Whether a supply was set between the cause and this line.
+    fn has_supply_since(&self) -> bool {
+        !self.is_own() && self.past.supply.is_some_and(|line| line > self.cause())
+    }
+
     /// Whether the write that is the cause met no loaded block and left none.
     fn is_by_load_and_unload(&self) -> bool {
         self.of_cause().first().is_some_and(|entry| entry.before.loaded.is_none())
@@ -271,7 +294,8 @@ impl Refused<'_> {
 
 /// Whether it is the high byte of 0x0020 or 0x0041.
 fn starts_anew(entry: &Entry) -> bool {
-    entry.register == WORD && entry.after == Record::power_on(Boot::Sealed)
+    let fresh = Record { supply: entry.after.supply, ..Record::power_on(Boot::Sealed) };
+    entry.register == WORD && entry.after == fresh
 }
 
 /// The same, by the word's low byte.

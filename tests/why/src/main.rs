@@ -21,10 +21,10 @@ fn main() -> ExitCode {
     let comparison = Comparison {
         name: "compare-why",
         kinds: &KINDS,
-        cases: 4_400,
+        cases: 4_800,
         events: &events::EVENTS,
         floor: 200,
-        lines: "refused writes explained",
+        lines: "refused writes and supplies explained",
     };
     comparison.main()
 }

@@ -4,15 +4,16 @@
 use model::layout::{checksum, BLOCK_LENGTH, INFO_CLASS};
 use model::record::Mode;
 use scripts::draft::Draft;
-use scripts::moves::{look, unseal, Move, Moves};
+use scripts::moves::{look, low_supply, set_supply, unseal, Move, Moves};
 
 pub const CAUSES: &Moves = &[
     (2, sealed),
     (3, none_loaded),
     (3, block_a),
-    (3, class),
+    (4, class),
     (1, class_set_to_0),
     (4, wrong_checksum),
+    (2, supply),
 ];
 
 /// A block that no class has, and none of 1 to 3.
@@ -32,7 +33,7 @@ fn some(draft: &mut Draft, moves: &[Move]) {
 fn sealed(draft: &mut Draft) {
     draft.open_with_control(1);
     start_anew(draft);
-    some(draft, &[start_anew, half_key, refused_load, set_control, look, refused_read]);
+    some(draft, &[start_anew, half_key, refused_load, set_control, look, refused_read, set_supply]);
     let register = draft.random.pick(&[0x3E, 0x61]);
     draft.write(register, &[0]);
 }
@@ -48,7 +49,7 @@ fn none_loaded(draft: &mut Draft) {
     if draft.mode() != Mode::Sealed && draft.random.chance(40) {
         load_and_unload(draft);
     }
-    some(draft, &[unload, refused_load, half_key, unseal, look, refused_read]);
+    some(draft, &[unload, refused_load, half_key, unseal, look, refused_read, set_supply]);
     window_byte(draft);
 }
 
@@ -61,7 +62,7 @@ fn block_a(draft: &mut Draft) {
         load(draft);
     }
     load_a(draft);
-    some(draft, &[load_a, window_byte, refused_load, half_key, look, refused_read]);
+    some(draft, &[load_a, window_byte, refused_load, half_key, look, refused_read, set_supply]);
     window_byte(draft);
 }
 
@@ -74,7 +75,7 @@ fn class(draft: &mut Draft) {
     let bytes = [class, NO_BLOCK];
     let count = draft.random.between(1, 2);
     draft.write(0x3E, &bytes[..count]);
-    some(draft, &[same_class, refused_load, set_control, look, refused_read]);
+    some(draft, &[same_class, refused_load, set_control, look, refused_read, set_supply]);
     refused_load(draft);
 }
 
@@ -114,7 +115,10 @@ fn wrong_checksum(draft: &mut Draft) {
     }
     load(draft);
     some(draft, &[edit, same_window, load_again]);
-    some(draft, &[commit, wrong_commit, refused_load, set_bad_control, look, refused_read]);
+    some(
+        draft,
+        &[commit, wrong_commit, refused_load, set_bad_control, look, refused_read, set_supply],
+    );
     if draft.random.chance(50) {
         // what is loaded stays loaded when a key opens the gauge
         unseal(draft);
@@ -122,7 +126,32 @@ fn wrong_checksum(draft: &mut Draft) {
     wrong_commit(draft);
 }
 
+/// 17: a commit on a low supply; and 1: a supply above its range.
+fn supply(draft: &mut Draft) {
+    load(draft);
+    low_supply(draft);
+    some(draft, &[edit, same_window, start_anew, above_range, look, refused_read]);
+    load(draft);
+    some(draft, &[edit, above_range, wrong_commit]);
+    if draft.random.chance(50) {
+        commit(draft);
+    } else {
+        let window = draft.any_window();
+        draft.write(0x40, &[&window[..], &[checksum(&window)]].concat());
+    }
+    if draft.random.chance(70) {
+        draft.supply(2_700);
+        commit(draft);
+    }
+}
+
 // What they are made of
+
+fn above_range(draft: &mut Draft) {
+    let any = draft.random.between(4_501, 0xFFFF) as u16;
+    let millivolts = draft.random.pick(&[4_501, 0xFFFF, any]);
+    draft.supply(millivolts);
+}
 
 fn start_anew(draft: &mut Draft) {
     let word = draft.random.pick(&[0x0020, 0x0041]);

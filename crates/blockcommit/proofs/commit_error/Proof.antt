@@ -12,9 +12,10 @@ commit-error-spec =
     tie.close
     (tie.spec
     (λ c κs. search needs)
+    (λ c. search edit-first)
     (λ c κs. search needs)
+    (λ c. search (needs, picks, calls, byteRules, store-behind) depth 14)
     (λ c κs. search needs)
     (λ c. search (needs, picks, calls, byteRules, store-behind) depth 14)
     (λ c. search (needs, picks, calls, byteRules, store-behind) depth 14)
-    (λ c. search (needs, picks, calls, byteRules, store-behind) depth 14)
-    (λ c. search edit-first))
+    (λ c. search (needs, picks, calls, byteRules, store-behind) depth 14))

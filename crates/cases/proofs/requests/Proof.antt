@@ -22,4 +22,8 @@ requests-spec =
     (λ c. search needs)
     (λ c. search needs)
     (λ c κs. (refl, search needs))
+    (λ c. search needs)
+    (λ c. search needs)
+    (λ c. search needs)
+    (λ c κs. (refl, search needs))
     (λ c. search needs))

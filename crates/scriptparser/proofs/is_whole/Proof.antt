@@ -12,4 +12,5 @@ is-whole-spec =
     (λ c. search picks depth 12)
     (λ c. search picks depth 12)
     (λ c. search picks depth 12)
+    (λ c. search picks depth 12)
     (λ c. search picks depth 12))

@@ -1,6 +1,6 @@
 -- `framerunner::explain::explain_write` meets its contract. By the write whose bytes are noted.
 use borrow.Author.Needs.{needs}
-use Rattle.framerunner.proofs.ExplainLaws.{write-explained, write-short}
+use Rattle.framerunner.proofs.ExplainLaws.{write-explained}
 use Rattle.framerunner.proofs.explain.explain_write.Statement.{statement}
 use Rattle.framerunner.proofs.explain.explain_write.Tie as tie
 
@@ -13,4 +13,4 @@ explain-write-spec =
     (λ c κs. search needs)
     (λ c. search needs)
     (λ c. search needs)
-    (λ c. (search write-explained, search (needs, write-short))))
+    (λ c. (search write-explained, search needs)))

@@ -11,4 +11,5 @@ few-in-range-spec =
     (λ c. search picks depth 12)
     (λ c. search picks depth 12)
     (λ c. search picks depth 12)
+    (λ c. search picks depth 12)
     (λ c. search picks depth 12))

@@ -1,6 +1,6 @@
 -- `scriptrunner::run::run_frame` meets its contract. What stands in the array is the frame.
 use borrow.Author.Needs.{needs}
-use Rattle.scriptrunner.proofs.DecodeLaws.{decoded-read, decoded-write}
+use Rattle.scriptrunner.proofs.DecodeLaws.{decoded-read, decoded-supply, decoded-write}
 use Rattle.scriptrunner.proofs.run.run_frame.Statement.{statement}
 use Rattle.scriptrunner.proofs.run.run_frame.Tie as tie
 
@@ -17,6 +17,14 @@ run-frame-spec =
     (λ c. search needs)
     (λ c. search needs)
     (λ c. (search (needs, decoded-read), search needs))
+    (λ c. search needs)
+    (λ c. search needs)
+    (λ c. search needs)
+    (λ c κs. search needs)
+    (λ c κs. search needs)
+    (λ c. search needs)
+    (λ c. search needs)
+    (λ c. (search (needs, decoded-supply), search needs))
     (λ c κs. search needs)
     (λ c. search needs)
     (λ c. search needs)

@@ -19,10 +19,9 @@ use Rattle.flashrules.specs.Layout.{fits}
 use Rattle.flashrules.specs.declared.layout.Layout.{Layout}
 use Rattle.flashrules.proofs.Picks.{pick-last, and-first, and-rest, same-refl, on-cond, on-test}
 use Rattle.flashrules.proofs.RefusalLaws.{first-in}
-use Rattle.gaugerules.specs.State.{isSealed, isFullAccess, nonePending, generalAccess, loadedOf, noneLoaded}
+use Rattle.gaugerules.specs.State.{isSealed, generalAccess, loadedOf, noneLoaded}
 use Rattle.gaugerules.specs.Register.{dataFlashClass, blockDataChecksum, blockDataControl, registerOf}
-use Rattle.gaugerules.specs.Keys.{keys, isKey}
-use Rattle.gaugerules.specs.Word.{word, statusWord, sealWord, resetWord, keyWanted, keyWord, obey}
+use Rattle.gaugerules.specs.Word.{word, obey}
 use Rattle.gaugerules.specs.Transfer.{isProtected}
 use Rattle.gaugerules.specs.Write.{writeAt, writeByte, written, writeBytes, callTests, callError, write}
 use Rattle.gaugerules.specs.Table.{byteTests, row2, row3, row4, row5, row6, row7, row8, row9, row16, row17}
@@ -31,7 +30,7 @@ use Rattle.gaugerules.specs.declared.register.Register.{Register}
 use Rattle.gaugerules.specs.declared.answer.ByteWritten.{ByteWritten}
 use Rattle.gaugerules.specs.declared.answer.Written.{Written}
 use Rattle.gaugerules.proofs.Laws.{byte-error, refused-byte}
-use Rattle.gaugerules.proofs.ByteCases.{on-class, on-control, on-commit}
+use Rattle.gaugerules.proofs.ByteCases.{on-class, on-control, on-commit, on-word}
 use Rattle.gaugerules.proofs.RegisterLaws.{on-register}
 use Rattle.gaugerules.proofs.RunLaws.{called}
 use Rattle.gaugerules.proofs.ValidLaws.{valid-parts}
@@ -144,14 +143,8 @@ module _ (met g : Gauge) where
     ToStood s = Stood (s .gauge)
 
     word-stood : (w : ℕ) → Stood (obey l image g w)
-    unfolding obey keyWord loadedOf
-    word-stood w =
-        on-cond Stood (eqb w statusWord) _ _ (λ _ t. t) (λ _.
-        on-cond Stood (eqb w sealWord) _ _ (λ _. gone) (λ _.
-        on-cond Stood (eqb w resetWord) _ _ (λ _. gone) (λ _.
-        on-cond Stood (isFullAccess g) _ _ (λ _ t. t) (λ _.
-        on-cond Stood (nonePending g) _ _ (λ _ t. t) (λ _.
-        on-cond Stood (isKey (keys l image) (keyWanted g) (g .pending) w) _ _ (λ _ t. t) (λ _ t. t))))))
+    unfolding loadedOf
+    word-stood w = on-word Stood l image g w (λ t. t) gone gone (λ _ t. t) (λ _ t. t) (λ _ _ t. t)
 
     window-stood : (k : Register) → setsAt k ≡ false → ToStood (writeAt k l image g byte .answer)
     unfolding writeAt outcome loadedOf

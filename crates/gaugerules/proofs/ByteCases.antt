@@ -1,5 +1,6 @@
--- A proof by the cases of what one byte does: for each rule of block transfer, what it comes to and
--- when. The one place that goes through these rules; a law of all bytes goes by them.
+-- A proof by the cases of what one byte does: for each rule of block transfer, and for a control
+-- word, what it comes to and when. The one place that goes through these rules; a law of all bytes
+-- goes by them.
 use Prim.Native.Nat.{ℕ, _-_, _≤_}
 use mathlib.Core.Path.{_≡_}
 use mathlib.Core.Bool.{true, false}
@@ -16,7 +17,10 @@ use Rattle.flashrules.specs.Image.{blockBytes, asLoaded}
 use Rattle.flashrules.specs.declared.layout.Layout.{Layout}
 use Rattle.flashrules.specs.declared.lookup.Lookup.{Lookup}
 use Rattle.flashrules.proofs.Picks.{and-first, and-rest, on-test, on-answer, on-cond}
-use Rattle.gaugerules.specs.State.{controlInfo, infoBlocks, isSealed, generalAccess, withControl, withClass, withWindow, unload, load}
+use Rattle.gaugerules.specs.State.{bootSealed, noWord, controlInfo, infoBlocks, isSealed, isFullAccess, nonePending, generalAccess}
+use Rattle.gaugerules.specs.State.{withControl, withClass, withWindow, restart, unload, load}
+use Rattle.gaugerules.specs.Keys.{keys, isKey}
+use Rattle.gaugerules.specs.Word.{statusWord, sealWord, resetWord, keyWanted, waits, opened, keyWord, withStatus, obey}
 use Rattle.gaugerules.specs.Transfer.{byteWritten, accept, refuse, setClass, loadBlock, selectsInfo, selectBlock, editError, edit, commitError, committed, setControl}
 use Rattle.gaugerules.specs.Write.{commit}
 use Rattle.gaugerules.specs.declared.state.Gauge.{Gauge}
@@ -56,3 +60,18 @@ pub on-commit : (P : Outcome ByteWritten (List ℕ) → Type 0) (l : Layout) (im
 unfolding commit
 on-commit P l image g byte accepted refused =
     on-test (eqb (commitError l image g byte) 0) (λ e. rw e (accepted (eqb-true _ _ e))) (λ e. rw e refused)
+
+-- ---- a control word
+
+module _ (P : Gauge → Type 0) (l : Layout) (image : List ℕ) (g : Gauge) (w : ℕ) where
+  pub on-word : P (withStatus g) → P (restart g bootSealed) → P (restart g (g .boot)) → (isFullAccess g ≡ true → P (waits g noWord))
+      → (isFullAccess g ≡ false → P (waits g w))
+      → (nonePending g ≡ false → isKey (keys l image) (keyWanted g) (g .pending) w ≡ true → P (opened g)) → P (obey l image g w)
+  unfolding obey keyWord
+  on-word status seal reset full wait key =
+      on-cond P (eqb w statusWord) _ _ (λ _. status) (λ _.
+      on-cond P (eqb w sealWord) _ _ (λ _. seal) (λ _.
+      on-cond P (eqb w resetWord) _ _ (λ _. reset) (λ _.
+      on-cond P (isFullAccess g) _ _ full (λ f.
+      on-cond P (nonePending g) _ _ (λ _. wait f) (λ n.
+      on-cond P (isKey (keys l image) (keyWanted g) (g .pending) w) _ _ (key n) (λ _. wait f))))))

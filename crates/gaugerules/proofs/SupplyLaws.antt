@@ -9,11 +9,10 @@ use lib.ListN.{length}
 use borrow.Author.Tests.{eqb-true, eqb-false, leb-true, leb-false, le-ltb, lt-ltb}
 use Rattle.flashrules.specs.Outcome.{Outcome, outcome}
 use Rattle.flashrules.specs.declared.layout.Layout.{Layout}
-use Rattle.flashrules.proofs.Picks.{and-first, and-rest, on-test, on-cond}
-use Rattle.gaugerules.specs.State.{maxSupply, nonePending, isFullAccess, hasLowSupply}
+use Rattle.flashrules.proofs.Picks.{and-first, and-rest, on-test}
+use Rattle.gaugerules.specs.State.{maxSupply, hasLowSupply}
 use Rattle.gaugerules.specs.Register.{blockDataChecksum, registerOf}
-use Rattle.gaugerules.specs.Keys.{keys, isKey}
-use Rattle.gaugerules.specs.Word.{word, statusWord, sealWord, resetWord, keyWanted, keyWord, obey}
+use Rattle.gaugerules.specs.Word.{word, obey}
 use Rattle.gaugerules.specs.Write.{writeAt, writeByte, writeBytes, callError, write}
 use Rattle.gaugerules.specs.Supply.{supplyError, setSupply}
 use Rattle.gaugerules.specs.Script.{Device, Call, toWrite, toRead, toSupply, afterCall, afterCalls, unseals}
@@ -23,7 +22,7 @@ use Rattle.gaugerules.specs.SupplyLaws.{SupplyNeverUnseals, alwaysLow, L
 use Rattle.gaugerules.specs.declared.state.Gauge.{Gauge}
 use Rattle.gaugerules.specs.declared.answer.ByteWritten.{ByteWritten}
 use Rattle.gaugerules.proofs.LoadedLaws.{well-supplied}
-use Rattle.gaugerules.proofs.ByteCases.{on-commit}
+use Rattle.gaugerules.proofs.ByteCases.{on-commit, on-word}
 use Rattle.gaugerules.proofs.KeptLaws.{Untouched, byte-keeps-part}
 use Rattle.gaugerules.proofs.ByteLaws.{only-commit}
 use Rattle.gaugerules.proofs.ValidLaws.{valid-parts, parts-valid, supply-valid, write-good}
@@ -36,19 +35,8 @@ restart-keeps-supply l image g = (refl, refl)
 
 -- ---- no byte changes the supply
 
-module _ (l : Layout) (image : List ℕ) (g : Gauge) where
-  abbrev Same : Gauge → Type 0
-  Same h = h .supply ≡ g .supply
-
-  word-keeps : (w : ℕ) → Same (obey l image g w)
-  unfolding obey keyWord
-  word-keeps w =
-      on-cond Same (eqb w statusWord) _ _ (λ _. refl) (λ _.
-      on-cond Same (eqb w sealWord) _ _ (λ _. refl) (λ _.
-      on-cond Same (eqb w resetWord) _ _ (λ _. refl) (λ _.
-      on-cond Same (isFullAccess g) _ _ (λ _. refl) (λ _.
-      on-cond Same (nonePending g) _ _ (λ _. refl) (λ _.
-      on-cond Same (isKey (keys l image) (keyWanted g) (g .pending) w) _ _ (λ _. refl) (λ _. refl))))))
+word-keeps : (l : Layout) (image : List ℕ) (g : Gauge) (w : ℕ) → obey l image g w .supply ≡ g .supply
+word-keeps l image g w = on-word (λ h. h .supply ≡ g .supply) l image g w refl refl refl (λ _. refl) (λ _. refl) (λ _ _. refl)
 
 supply-untouched : Untouched (λ (g : Gauge). g .supply)
 supply-untouched = record { class = λ g i. refl; control = λ g x. refl; load = λ g byte i b w. refl; window = λ g w. refl }

@@ -19,12 +19,11 @@ use Rattle.flashrules.proofs.BytesLaws.{bytes-set, bytes-zeros, are-bytes, test
 use Rattle.flashrules.proofs.Laws.{loaded-length, exists-found, store-length}
 use Rattle.flashrules.proofs.Picks.{and-first, and-rest, and-both, on-test, on-cond}
 use Rattle.gaugerules.specs.State.{unsealed, fullAccess, bootSealed, bootOpen, noWord, noBlock, controlInfo, infoBlocks, maxSupply, powerOnSupply}
-use Rattle.gaugerules.specs.State.{isSealed, isFullAccess, nonePending, loadedOf, withLow, withPending, withResult, withControl, withClass}
+use Rattle.gaugerules.specs.State.{isSealed, isFullAccess, loadedOf, withLow, withPending, withResult, withControl, withClass}
 use Rattle.gaugerules.specs.State.{withSupply, powerOn, load, unload}
 use Rattle.gaugerules.specs.Valid.{maxWord, inRange, loadedValid, pendingValid, sealedValid, valid}
 use Rattle.gaugerules.specs.Register.{registerOf}
-use Rattle.gaugerules.specs.Keys.{keys, isKey}
-use Rattle.gaugerules.specs.Word.{word, statusWord, sealWord, resetWord, status, keyWanted, keyWord, waits, opened, obey}
+use Rattle.gaugerules.specs.Word.{word, status, waits, opened, obey}
 use Rattle.gaugerules.specs.Transfer.{byteWritten, setClass, loadBlock, selectBlock, edit, commitError, committed, setControl}
 use Rattle.gaugerules.specs.Write.{writeAt, writeByte, writeBytes, callError, write}
 use Rattle.gaugerules.specs.Laws.{Good, PowerOnValid, ByteGood, WriteGood}
@@ -33,7 +32,7 @@ use Rattle.gaugerules.specs.declared.register.Register.{Register}
 use Rattle.gaugerules.specs.declared.answer.ByteWritten.{ByteWritten}
 use Rattle.gaugerules.specs.declared.answer.Written.{Written}
 use Rattle.gaugerules.proofs.LoadedLaws.{load-view, editable, committable}
-use Rattle.gaugerules.proofs.ByteCases.{on-class, on-control, on-edit, on-load, on-select, on-commit}
+use Rattle.gaugerules.proofs.ByteCases.{on-class, on-control, on-edit, on-load, on-select, on-commit, on-word}
 
 -- ---- what a valid gauge has
 
@@ -125,19 +124,10 @@ module _ (l : Layout) (g : Gauge) (v : Valid l g) where
       Fits x = x ≤ maxWord
 
   module _ (image : List ℕ) (w : ℕ) (h : w ≤ maxWord) where
-    key-valid : Valid l (keyWord l image g w)
-    unfolding keyWord
-    key-valid =
-        on-cond (Valid l) (isFullAccess g) _ _ (λ _. cleared-valid 0 (omega arith)) (λ p.
-        on-cond (Valid l) (nonePending g) _ _ (λ _. waits-valid w h p) (λ _.
-        on-cond (Valid l) (isKey (keys l image) (keyWanted g) (g .pending) w) _ _ (λ _. opened-valid) (λ _. waits-valid w h p)))
-
     obey-valid : Valid l (obey l image g w)
-    unfolding obey
     obey-valid =
-        on-cond (Valid l) (eqb w statusWord) _ _ (λ _. cleared-valid (status g) status-fits) (λ _.
-        on-cond (Valid l) (eqb w sealWord) _ _ (λ _. power-on-parts l bootSealed (g .supply) (v .range .supply)) (λ _.
-        on-cond (Valid l) (eqb w resetWord) _ _ (λ _. power-on-parts l (g .boot) (g .supply) (v .range .supply)) (λ _. key-valid)))
+        on-word (Valid l) l image g w (cleared-valid (status g) status-fits) (power-on-parts l bootSealed (g .supply) (v .range .supply))
+        (power-on-parts l (g .boot) (g .supply) (v .range .supply)) (λ _. cleared-valid 0 (omega arith)) (waits-valid w h) (λ _ _. opened-valid)
 
   -- ---- unload, and the two registers that unload
 

@@ -12,10 +12,8 @@ use Rattle.flashrules.specs.Lookup.{blockSize}
 use Rattle.flashrules.specs.declared.layout.Layout.{Layout}
 use Rattle.flashrules.proofs.Laws.{loaded-length, store-length}
 use Rattle.flashrules.proofs.Picks.{on-cond}
-use Rattle.gaugerules.specs.State.{isFullAccess, nonePending}
 use Rattle.gaugerules.specs.Register.{registerOf}
-use Rattle.gaugerules.specs.Keys.{keys, isKey}
-use Rattle.gaugerules.specs.Word.{word, statusWord, sealWord, resetWord, keyWanted, keyWord, obey}
+use Rattle.gaugerules.specs.Word.{word, obey}
 use Rattle.gaugerules.specs.Transfer.{byteWritten, loadBlock, committed, commitError}
 use Rattle.gaugerules.specs.Write.{writeAt, writeByte, writeBytes, callError, write}
 use Rattle.gaugerules.specs.Laws.{WriteLength}
@@ -24,7 +22,7 @@ use Rattle.gaugerules.specs.declared.register.Register.{Register}
 use Rattle.gaugerules.specs.declared.answer.ByteWritten.{ByteWritten}
 use Rattle.gaugerules.specs.declared.answer.Written.{Written}
 use Rattle.gaugerules.proofs.LoadedLaws.{committable}
-use Rattle.gaugerules.proofs.ByteCases.{on-class, on-control, on-edit, on-load, on-select, on-commit}
+use Rattle.gaugerules.proofs.ByteCases.{on-class, on-control, on-edit, on-load, on-select, on-commit, on-word}
 use Rattle.gaugerules.proofs.RunLaws.{called}
 use Rattle.gaugerules.proofs.ValidLaws.{valid-parts}
 
@@ -33,14 +31,7 @@ Whole g = length (g .window) ≡ blockSize
 
 module _ (l : Layout) (image : List ℕ) (g : Gauge) (byte : ℕ) (h : Whole g) where
   word-whole : (w : ℕ) → Whole (obey l image g w)
-  unfolding obey keyWord
-  word-whole w =
-      on-cond Whole (eqb w statusWord) _ _ (λ _. h) (λ _.
-      on-cond Whole (eqb w sealWord) _ _ (λ _. refl) (λ _.
-      on-cond Whole (eqb w resetWord) _ _ (λ _. refl) (λ _.
-      on-cond Whole (isFullAccess g) _ _ (λ _. h) (λ _.
-      on-cond Whole (nonePending g) _ _ (λ _. h) (λ _.
-      on-cond Whole (isKey (keys l image) (keyWanted g) (g .pending) w) _ _ (λ _. h) (λ _. h))))))
+  word-whole w = on-word Whole l image g w h refl refl (λ _. h) (λ _. h) (λ _ _. h)
 
   abbrev ToWhole : ByteWritten → Type 0
   ToWhole s = Whole (s .gauge)

@@ -11,14 +11,15 @@ use lib.ListN.{length, take}
 use borrow.Author.Tests.{eqb-false}
 use Rattle.flashrules.specs.declared.layout.Layout.{Layout}
 use Rattle.flashrules.proofs.PartLaws.{drop-front}
-use Rattle.flashrules.proofs.Picks.{on-test, on-cond}
+use Rattle.flashrules.proofs.Picks.{on-test}
 use Rattle.gaugerules.specs.State.{fullAccess, bootSealed, noWord, isSealed, isFullAccess, nonePending, withLow, powerOn, restart}
 use Rattle.gaugerules.specs.Keys.{fullAccessKey, keyLength, keys, keyBytes, isKey}
-use Rattle.gaugerules.specs.Word.{word, statusWord, sealWord, resetWord, keyWanted, waits, opened, keyWord, withStatus, obey}
+use Rattle.gaugerules.specs.Word.{word, keyWanted, waits, opened, withStatus, obey}
 use Rattle.gaugerules.specs.Write.{write}
 use Rattle.gaugerules.specs.Script.{Device, device, Call, toWrite, toRead, toSupply, afterCall, made, obeyed, words}
 use Rattle.gaugerules.specs.KeyProtection.{neverFullAccess, sendsFullAccessKey, KeysKeptWithoutKey}
 use Rattle.gaugerules.specs.declared.state.Gauge.{Gauge}
+use Rattle.gaugerules.proofs.ByteCases.{on-word}
 use Rattle.gaugerules.proofs.LockLaws.{Lock, lock, writes}
 use Rattle.gaugerules.proofs.SupplyCases.{supply-lock}
 use Rattle.gaugerules.proofs.KeyProtectionLaws.{call-keeps, keys-kept}
@@ -91,14 +92,9 @@ module _ (l : Layout) (start image ws : List ℕ) (e : keyBytes l image ≡ keyB
           (λ (z : sendsFullAccessKey bs (pending ∷ w ∷ ws) ≡ false). true≢false (rw key at z)) h))
 
       obeys : Obeyed (obey l image g w)
-      unfolding obey keyWord
       obeys =
-          on-cond Obeyed (eqb w statusWord) _ _ (λ _. clears (withStatus g) (v .mode) (v .boot) refl) (λ _.
-          on-cond Obeyed (eqb w sealWord) _ _ (λ _. clears (restart g bootSealed) refl refl refl) (λ _.
-          on-cond Obeyed (eqb w resetWord) _ _ (λ _. clears (restart g (g .boot)) (rw (v .boot)) (rw (v .boot)) refl) (λ _.
-          on-cond Obeyed (isFullAccess g) _ _ (λ a. absurd (true≢false (sym a ∙ v .mode))) (λ _.
-          on-cond Obeyed (nonePending g) _ _ (λ _. waits-on) (λ n.
-          on-cond Obeyed (isKey (keys l image) (keyWanted g) (g .pending) w) _ _ (opens n) (λ _. waits-on))))))
+          on-word Obeyed l image g w (clears (withStatus g) (v .mode) (v .boot) refl) (clears (restart g bootSealed) refl refl refl)
+          (clears (restart g (g .boot)) (rw (v .boot)) (rw (v .boot)) refl) (λ a. absurd (true≢false (sym a ∙ v .mode))) (λ _. waits-on) opens
 
     any-low : (g : Gauge) (b : ℕ) → AnyByte b → Waits pending g → Waits pending (withLow g b)
     any-low g b t v = record { mode = v .mode; boot = v .boot; is = v .is }

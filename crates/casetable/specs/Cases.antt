@@ -221,7 +221,7 @@ cases =
     (linesText ((0 ∷ 1 ∷ 0 ∷ []) ∷ (0 ∷ 2 ∷ 0 ∷ []) ∷ (0 ∷ 1 ∷ 0 ∷ []) ∷ (0 ∷ 1 ∷ 1 ∷ []) ∷ []))
     129 0x15
     -- C-16: sealed, 7 in block B on 2,699: 17, and so again after 0x0020; 4,501 is refused with 1,
-    -- and on 2,700 the window that is there is stored
+    -- 4,500 is not, and on 2,700 the window that is there is stored
     ∷ session 0 0
     (linesText
     ((0x02 ∷ 0x0A ∷ 0x8B ∷ [])
@@ -231,6 +231,7 @@ cases =
     ∷ (0x01 ∷ 0x3F ∷ 2 ∷ 7 ∷ [])
     ∷ (0x01 ∷ 0x60 ∷ 248 ∷ [])
     ∷ (0x02 ∷ 0x11 ∷ 0x95 ∷ [])
+    ∷ (0x02 ∷ 0x11 ∷ 0x94 ∷ [])
     ∷ (0x02 ∷ 0x0A ∷ 0x8C ∷ [])
     ∷ (0x01 ∷ 0x60 ∷ 248 ∷ [])
     ∷ []))
@@ -242,6 +243,7 @@ cases =
     ∷ (0 ∷ 2 ∷ 0 ∷ [])
     ∷ (17 ∷ 0 ∷ 0 ∷ [])
     ∷ (1 ∷ [])
+    ∷ (0 ∷ [])
     ∷ (0 ∷ [])
     ∷ (0 ∷ 1 ∷ 1 ∷ [])
     ∷ []))

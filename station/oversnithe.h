@@ -78,8 +78,7 @@ typedef struct {
 /*
  * The value of a parameter, most significant byte first, and whether it is in range. Errors, in
  * this order: 10 the layout is invalid or the image has another length, 11 the parameter is
- * invalid, 4 its class is not in the layout, 12 its bytes leave the class or cross the end of a
- * block of 32 bytes.
+ * invalid, 4 its class is not in the layout, 12 its bytes leave the class.
  */
 oversnithe_parameter_value oversnithe_parameter_get(oversnithe_layout layout, const uint8_t *image,
                                                     size_t length, oversnithe_parameter parameter);
@@ -88,10 +87,21 @@ oversnithe_parameter_value oversnithe_parameter_get(oversnithe_layout layout, co
  * Sets a parameter to a value, and answers the error: those above, then 13 where the value is not
  * in range. The image's bytes of that parameter become the value's, and no other byte changes;
  * refused, none does. The image is what a gauge just powered on would leave, so there is no supply
- * to be told, and 17 is never answered.
+ * to be told, and 17 is never answered. Where the bytes cross the end of a block of 32 bytes, that
+ * gauge makes two commits, the lower block first.
  */
 uint8_t oversnithe_parameter_set(oversnithe_layout layout, uint8_t *image, size_t length,
                                  oversnithe_parameter parameter, int64_t value);
+
+/*
+ * What a cut of power finds between these two commits: of the parameter's bytes those in the lower
+ * block become the value's, and no other byte of the image changes. The errors are those of setting
+ * it; where its bytes lie inside one block, so is all the rest. What is read then may be neither
+ * the old value nor the new one, and out of range. Setting the value mends it: the image is then
+ * what it would be without the cut.
+ */
+uint8_t oversnithe_parameter_set_lower(oversnithe_layout layout, uint8_t *image, size_t length,
+                                       oversnithe_parameter parameter, int64_t value);
 
 #ifdef __cplusplus
 }

@@ -16,7 +16,9 @@ use crate::value::sum;
 use gaugerules::state::BOOT_OPEN;
 use gaugerules::state::BOOT_SEALED;
 use parameterrules::kind::I8;
+use parameterrules::kind::I32;
 use parameterrules::kind::U16;
+use parameterrules::kind::U32;
 
 // Cases that are one call.
 fn values() {
@@ -94,16 +96,43 @@ fn sessions() {
 
 // Cases that set or read a parameter.
 fn parameters() {
-    set_parameter(12, b"P11", 31, U16, 0, 65535, 0x1234, 12, 0, b"");
-    set_parameter(13, b"P11", 30, U16, 0, 65535, 0x1234, 0, 30, &[0x12, 0x34]);
-    set_parameter(14, b"P12", 0, I8, -128, 127, -128, 0, 0, &[0x80]);
-    get_parameter(15, b"P12", 0x80, 0, I8, -128, 127, -128);
+    set_parameter(
+        12,
+        b"P11",
+        false,
+        48,
+        31,
+        U16,
+        0,
+        65535,
+        0x1234,
+        0,
+        31,
+        &[0x12, 0x34],
+    );
+    set_parameter(13, b"P11", false, 58, 95, U16, 0, 65535, 0x1234, 12, 0, b"");
+    set_parameter(
+        14,
+        b"P11",
+        false,
+        48,
+        30,
+        U16,
+        0,
+        65535,
+        0x1234,
+        0,
+        30,
+        &[0x12, 0x34],
+    );
+    set_parameter(15, b"P12", false, 48, 0, I8, -128, 127, -128, 0, 0, &[0x80]);
+    get_parameter(16, b"P12", 0x80, 48, 0, I8, -128, 127, -128);
 }
 
 // Cases of change requests.
 fn requests() {
     session(
-        16,
+        17,
         b"C-12",
         0,
         BOOT_SEALED,
@@ -113,7 +142,7 @@ fn requests() {
         7,
     );
     session(
-        17,
+        18,
         b"C-14",
         0,
         BOOT_SEALED,
@@ -123,7 +152,7 @@ fn requests() {
         1,
     );
     session(
-        18,
+        19,
         b"C-14",
         0,
         BOOT_OPEN,
@@ -133,7 +162,7 @@ fn requests() {
         0x15,
     );
     session(
-        19,
+        20,
         b"C-16",
         0,
         BOOT_SEALED,
@@ -144,9 +173,59 @@ fn requests() {
     );
 }
 
+// Parameters that cross a block's end, the second with a cut of power.
+fn across_blocks() {
+    let max = 0xFFFFFFFF;
+    let value = 0x12345678;
+    set_parameter(
+        21,
+        b"C-17",
+        false,
+        58,
+        30,
+        U32,
+        0,
+        max,
+        value,
+        0,
+        63,
+        &[0x12, 0x34, 0x56, 0x78],
+    );
+    set_parameter(
+        22,
+        b"C-17",
+        true,
+        58,
+        30,
+        U32,
+        0,
+        max,
+        value,
+        0,
+        63,
+        &[0x12, 0x34],
+    );
+    set_parameter(
+        23,
+        b"C-17",
+        false,
+        48,
+        29,
+        I32,
+        -2,
+        0,
+        -2,
+        0,
+        29,
+        &[0xFF, 0xFF, 0xFF, 0xFE],
+    );
+    set_parameter(24, b"C-17", false, 48, 30, I32, -2, 0, -2, 12, 0, b"");
+}
+
 fn main() {
     values();
     sessions();
     parameters();
     requests();
+    across_blocks();
 }

@@ -7,16 +7,17 @@ use crate::text::show_verdict;
 use parameterrules::parameter::Parameter;
 use parameters::get;
 use parameters::set;
+use parameters::set_lower;
 ghost use mathlib.Core.Path.{_≡_};
 ghost use Prim.Native.Nat.{_+_, _≤_};
 ghost use lib.ListN.{length};
 ghost use Rattle.casetable.specs.Cases.{benchSize, benchParameter, setParameter, getParameter, caseAt};
 
-fn bench_parameter(offset: u16, kind: u8, min: i64, max: i64) -> Parameter
-    ensures { λ r. ⌜ r ≡ benchParameter offset kind min max ⌝ }
+fn bench_parameter(class: u8, offset: u16, kind: u8, min: i64, max: i64) -> Parameter
+    ensures { λ r. ⌜ r ≡ benchParameter class offset kind min max ⌝ }
 {
     Parameter {
-        class: 48,
+        class,
         offset,
         kind,
         min,
@@ -38,12 +39,20 @@ fn changed_so(image: &[u8], at: usize, bytes: &[u8]) -> bool
     false
 }
 
-// Whether setting answers this error and leaves such an image.
-fn sets_so(parameter: Parameter, value: i64, error: u8, at: usize, bytes: &[u8]) -> bool
+// Sets a parameter of the bench's layout, with a cut of power after the first commit or without.
+fn set_until(cut: bool, image: &mut [u8], parameter: Parameter, value: i64) -> u8 {
+    if cut {
+        return set_lower(bench_layout(), image, parameter, value);
+    }
+    set(bench_layout(), image, parameter, value)
+}
+
+// Whether that answers this error and leaves such an image.
+fn sets_so(cut: bool, parameter: Parameter, value: i64, error: u8, at: usize, bytes: &[u8]) -> bool
     requires { ⌜ at + length (now bytes) ≤ benchSize ⌝ }
 {
     let mut image = bench_image(0);
-    let answer = set(bench_layout(), &mut image, parameter, value);
+    let answer = set_until(cut, &mut image, parameter, value);
     show_number(answer as u64);
     if answer == error {
         return changed_so(&image, at, bytes);
@@ -54,6 +63,8 @@ fn sets_so(parameter: Parameter, value: i64, error: u8, at: usize, bytes: &[u8])
 pub(crate) fn set_parameter(
     k: usize,
     name: &[u8],
+    cut: bool,
+    class: u8,
     offset: u16,
     kind: u8,
     min: i64,
@@ -63,12 +74,12 @@ pub(crate) fn set_parameter(
     at: usize,
     bytes: &[u8],
 )
-    requires { ⌜ (caseAt k ≡ setParameter (benchParameter offset kind min max) value error at (now bytes)) × (at + length (now bytes) ≤ benchSize) ⌝ }
+    requires { ⌜ (caseAt k ≡ setParameter cut (benchParameter class offset kind min max) value error at (now bytes)) × (at + length (now bytes) ≤ benchSize) ⌝ }
 {
     show_text(name);
     show_text(b" set, error ");
-    let parameter = bench_parameter(offset, kind, min, max);
-    show_verdict(sets_so(parameter, value, error, at, bytes));
+    let parameter = bench_parameter(class, offset, kind, min, max);
+    show_verdict(sets_so(cut, parameter, value, error, at, bytes));
 }
 
 // Whether this value is read, and in range.
@@ -88,16 +99,17 @@ pub(crate) fn get_parameter(
     k: usize,
     name: &[u8],
     first: u8,
+    class: u8,
     offset: u16,
     kind: u8,
     min: i64,
     max: i64,
     value: i64,
 )
-    requires { ⌜ caseAt k ≡ getParameter first (benchParameter offset kind min max) value ⌝ }
+    requires { ⌜ caseAt k ≡ getParameter first (benchParameter class offset kind min max) value ⌝ }
 {
     show_text(name);
     show_text(b" get, error ");
-    let parameter = bench_parameter(offset, kind, min, max);
+    let parameter = bench_parameter(class, offset, kind, min, max);
     show_verdict(reads_so(first, parameter, value));
 }

@@ -23,6 +23,7 @@ use Rattle.gaugerules.specs.Script.{reply, afterCall}
 use Rattle.parameterrules.specs.Integer.{toBytes, fromBytes, fitsIn}
 use Rattle.parameterrules.specs.Kind.{widthOf, isSigned, holds as holdsInteger}
 use Rattle.parameterrules.specs.Parameter.{valid as validParameter, inRange as inParameterRange, getError, setError, valueIn, get, set}
+use Rattle.parameterrules.specs.Commits.{setLower}
 use Rattle.scriptrules.specs.Parser.{isDigit, isWhole, withDigit, withCharacter, feedByte, endError, parseScript}
 use Rattle.scriptrules.specs.Reply.{replyText, afterFrame}
 use Rattle.scriptrules.specs.Replay.{replay}
@@ -34,7 +35,7 @@ use Rattle.casetable.specs.Session.{SessionHolds}
 use Rattle.casetable.specs.Why.{CausesHold}
 
 computed : CasesHold × SessionHolds × CausesHold
-unfolding passes every classes validLayout fits findClass findBlock blockExists blockBytes storeBlock asLoaded inRange valid registerOf isKey keyWord obey setClass loadBlock selectBlock isProtected editError edit changesKeys commitError committed setControl outcome loadedOf commit writeAt writeByte writeBytes badSpan callError write readAt readByte readBytes readError read supplyError setSupply reply afterCall indexOf indexAfter digit value line blockLines serializeImage width addLine candidate holds parseImage isDigit isWhole withDigit withCharacter feedByte endError parseScript replyText afterFrame replay toBytes fromBytes fitsIn widthOf isSigned holdsInteger validParameter inParameterRange getError setError valueIn get set byteSteps writeSteps supplySteps reasonOf causeText explanation why
+unfolding passes every classes validLayout fits findClass findBlock blockExists blockBytes storeBlock asLoaded inRange valid registerOf isKey keyWord obey setClass loadBlock selectBlock isProtected editError edit changesKeys commitError committed setControl outcome loadedOf commit writeAt writeByte writeBytes badSpan callError write readAt readByte readBytes readError read supplyError setSupply reply afterCall indexOf indexAfter digit value line blockLines serializeImage width addLine candidate holds parseImage isDigit isWhole withDigit withCharacter feedByte endError parseScript replyText afterFrame replay toBytes fromBytes fitsIn widthOf isSigned holdsInteger validParameter inParameterRange getError setError valueIn get set setLower byteSteps writeSteps supplySteps reasonOf causeText explanation why
 computed = (refl, refl, refl)
 
 pub cases-hold : CasesHold

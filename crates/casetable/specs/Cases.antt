@@ -4,7 +4,7 @@
 -- required to be in the table.
 use Prim.Native.Nat.{ℕ}
 use mathlib.Core.Path.{_≡_}
-use mathlib.Core.Bool.{Bool, true, false}
+use mathlib.Core.Bool.{Bool, true, false, cond}
 use mathlib.Core.List.{List, [], _∷_, _++_}
 use lib.Dec.{eqb}
 use lib.ListN.{getD, replicate}
@@ -20,6 +20,7 @@ use Rattle.flashrules.specs.declared.layout.Layout.{Layout}
 use Rattle.gaugerules.specs.State.{powerOn}
 use Rattle.gaugerules.specs.Script.{Device, device}
 use Rattle.parameterrules.specs.Parameter.{get, set}
+use Rattle.parameterrules.specs.Commits.{setLower}
 use Rattle.parameterrules.specs.declared.parameter.Parameter.{Parameter}
 use Rattle.scriptrules.specs.Parser.{ParsedScript, script, noScript, parseScript}
 use Rattle.scriptrules.specs.Reply.{replies, afterFrames}
@@ -40,9 +41,10 @@ benchImage first = first ∷ replicate 128 0 ++ (0x14 ∷ 0x04 ∷ 0x72 ∷ 0x36
 abbrev pub benchSize : ℕ
 benchSize = 157
 
--- a parameter of class 48: its offset, its kind, and its range
-abbrev pub benchParameter : ℕ → ℕ → ℤ → ℤ → Parameter
-benchParameter offset kind min max = record { class = 48; offset = offset; kind = kind; min = min; max = max }
+-- a parameter: its class, its offset, its kind, and its range
+abbrev pub benchParameter : ℕ → ℕ → ℕ → ℤ → ℤ → Parameter
+benchParameter class offset kind min max =
+    record { class = class; offset = offset; kind = kind; min = min; max = max }
 
 pub data Case : Type 0 where
   -- bytes, and their checksum
@@ -54,9 +56,10 @@ pub data Case : Type 0 where
   -- the image's first byte, the home at power-on, a script and its output, and the one byte of the
   -- image after it that may be another: its index and its value
   session : ℕ → ℕ → List ℕ → List ℕ → ℕ → ℕ → Case
-  -- a parameter, a value to be set, the error number, and the bytes of the image after it that may
-  -- be others: the index of the first, and their values
-  setParameter : Parameter → ℤ → ℕ → ℕ → List ℕ → Case
+  -- whether power is cut after the first commit, a parameter, a value to be set, the error number,
+  -- and the bytes of the image after it that may be others: the index of the first, and their
+  -- values
+  setParameter : Bool → Parameter → ℤ → ℕ → ℕ → List ℕ → Case
   -- the image's first byte, a parameter, and the value in range that is read
   getParameter : ℕ → Parameter → ℤ → Case
 
@@ -74,8 +77,8 @@ passes (lookup i b e n) =
     and (eqb (errorOf a) e ∷ eqb (lengthOf a) n ∷ [])
 passes (session first boot x output at byte) =
     prints (device (powerOn boot) (benchImage first)) (parseScript x) output (sets (benchImage first) at (byte ∷ []))
-passes (setParameter p v e at bs) =
-    let s = set benchLayout (benchImage 0) p v in
+passes (setParameter cut p v e at bs) =
+    let s = cond cut (setLower benchLayout (benchImage 0) p v) (set benchLayout (benchImage 0) p v) in
     and (eqb (s .answer) e ∷ same (s .lent) (sets (benchImage 0) at bs) ∷ [])
 passes (getParameter first p v) =
     let g = get benchLayout (benchImage first) p in
@@ -170,13 +173,14 @@ cases =
     ∷ (0 ∷ replicate 32 0)
     ∷ []))
     0 0x55
-    -- P11: "two bytes at offset 31: 12; at 30: accepted." Class 48 has both; it is the block that
-    -- ends
-    ∷ setParameter (benchParameter 31 2 (pos 0) (pos 65535)) (pos 0x1234) 12 0 []
-    ∷ setParameter (benchParameter 30 2 (pos 0) (pos 65535)) (pos 0x1234) 0 30 (0x12 ∷ 0x34 ∷ [])
+    -- P11: "two bytes at offset 31: 12; at 30: accepted." C-17: "P11's offset 31 is accepted where
+    -- the class goes on", as class 48 does; at 95 of class 58, 31 of its last block, it ends
+    ∷ setParameter false (benchParameter 48 31 2 (pos 0) (pos 65535)) (pos 0x1234) 0 31 (0x12 ∷ 0x34 ∷ [])
+    ∷ setParameter false (benchParameter 58 95 2 (pos 0) (pos 65535)) (pos 0x1234) 12 0 []
+    ∷ setParameter false (benchParameter 48 30 2 (pos 0) (pos 65535)) (pos 0x1234) 0 30 (0x12 ∷ 0x34 ∷ [])
     -- P12: "signed byte -128 is 80."
-    ∷ setParameter (benchParameter 0 0x81 (negℤ (pos 128)) (pos 127)) (negℤ (pos 128)) 0 0 (0x80 ∷ [])
-    ∷ getParameter 0x80 (benchParameter 0 0x81 (negℤ (pos 128)) (pos 127)) (negℤ (pos 128))
+    ∷ setParameter false (benchParameter 48 0 0x81 (negℤ (pos 128)) (pos 127)) (negℤ (pos 128)) 0 0 (0x80 ∷ [])
+    ∷ getParameter 0x80 (benchParameter 48 0 0x81 (negℤ (pos 128)) (pos 127)) (negℤ (pos 128))
     -- C-12: sealed, 7 in block B, committed by a write that goes on to 0x61: 3, one byte accepted,
     -- one byte changed; committed once more: none
     ∷ session 0 0
@@ -248,6 +252,13 @@ cases =
     ∷ (0 ∷ 1 ∷ 1 ∷ [])
     ∷ []))
     65 7
+    -- C-17: "a four-byte setting at offset 30", of class 58: all of it, and what a cut of power
+    -- finds between the commits
+    ∷ setParameter false (benchParameter 58 30 4 (pos 0) (pos 0xFFFFFFFF)) (pos 0x12345678) 0 63 (0x12 ∷ 0x34 ∷ 0x56 ∷ 0x78 ∷ [])
+    ∷ setParameter true (benchParameter 58 30 4 (pos 0) (pos 0xFFFFFFFF)) (pos 0x12345678) 0 63 (0x12 ∷ 0x34 ∷ [])
+    -- C-17: four bytes up to the last one of class 48, and one byte further: 12
+    ∷ setParameter false (benchParameter 48 29 0x84 (negℤ (pos 2)) (pos 0)) (negℤ (pos 2)) 0 29 (0xFF ∷ 0xFF ∷ 0xFF ∷ 0xFE ∷ [])
+    ∷ setParameter false (benchParameter 48 30 0x84 (negℤ (pos 2)) (pos 0)) (negℤ (pos 2)) 12 0 []
     ∷ []
 
 abbrev pub CasesHold : Type 0

@@ -46,7 +46,7 @@ malformed = 10
 abbrev pub invalidParameter : ℕ
 invalidParameter = 11
 
--- 12: "parameter leaves its class or crosses a block's end"
+-- 12: "parameter leaves its class"; 02, C-17: "now only for a row that leaves its class"
 abbrev pub misplacedParameter : ℕ
 misplacedParameter = 12
 

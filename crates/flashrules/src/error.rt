@@ -27,7 +27,7 @@ pub const MALFORMED: u8 = 10;
 
 pub const INVALID_PARAMETER: u8 = 11;
 
-// A parameter whose bytes leave its class or cross a block's end.
+// A parameter whose bytes leave its class.
 pub const MISPLACED_PARAMETER: u8 = 12;
 
 // A value to be set that its parameter's range has not.

@@ -1,7 +1,7 @@
 -- Scripts: a device is a gauge with the image that it is lent, a script is a list of calls on it.
 -- Document 01, "Two gauges, one script".
 use Prim.Native.Nat.{ℕ, _+_}
-use mathlib.Core.Bool.{Bool, false, cond, not}
+use mathlib.Core.Bool.{Bool, true, false, cond, not}
 use mathlib.Core.List.{List, [], _∷_, _++_}
 use lib.Dec.{eqb}
 use lib.ListN.{length, take}
@@ -58,6 +58,22 @@ afterCall l d (toSupply millivolts) = device (setSupply l (length (d .image)) (d
 unfoldable pub afterCalls : Layout → Device → List Call → Device
 afterCalls l d [] = d
 afterCalls l d (c ∷ cs) = afterCalls l (afterCall l d c) cs
+
+-- the images that they leave, one after the other
+unfoldable pub imagesAfter : Layout → Device → List Call → List (List ℕ)
+imagesAfter l d [] = []
+imagesAfter l d (c ∷ cs) = let after = afterCall l d c in after .image ∷ imagesAfter l after cs
+
+-- the error number of a reply
+abbrev pub replyError : Reply → ℕ
+replyError (ofWrite e n changed) = e
+replyError (ofRead r) = r .answer .error
+replyError (ofSupply e) = e
+
+-- none of them is refused
+unfoldable pub allAccepted : Layout → Device → List Call → Bool
+allAccepted l d [] = true
+allAccepted l d (c ∷ cs) = and (eqb (replyError (reply l d c)) 0 ∷ allAccepted l (afterCall l d c) cs ∷ [])
 
 -- 01: "A write opens a sealed gauge when that gauge is no longer sealed after it, even if a later
 -- byte of it is refused."

@@ -1,24 +1,25 @@
 -- What the tests of a parameter put together. An i64 that is passed or compared goes there as bits:
 -- `toZ w64 (ofZ w64 v)`, which is v (`back`).
-use Prim.Native.Nat.{ℕ, _+_, _%_, _≤_, _<_}
+use Prim.Native.Nat.{ℕ, _+_, _≤_, _<_}
 use mathlib.Core.Path.{_≡_, refl}
 use mathlib.Core.Bool.{Bool, true, false, not}
 use mathlib.Core.List.{List, [], _∷_}
+use lib.Dec.{ltb}
 use lib.IntN.{ℤ}
 use lib.Signed.{leZ}
 use borrow.Author.Needs.{sfits-of}
-use borrow.Author.Tests.{le-leb, lt-leb, lt-ltb, le-ltb}
+use borrow.Author.Tests.{le-leb, lt-leb}
 use mir.Facts.{toZ-ofZ}
 use Rattle.flashrules.specs.Error.{unknownClass, malformed, invalidParameter, misplacedParameter, outOfRange}
 use Rattle.flashrules.specs.Refusal.{firstError}
 use Rattle.flashrules.specs.Choice.{and}
 use Rattle.flashrules.specs.Layout.{fits}
-use Rattle.flashrules.specs.Lookup.{blockSize, findClass}
+use Rattle.flashrules.specs.Lookup.{findClass}
 use Rattle.flashrules.specs.declared.layout.Layout.{Layout}
 use Rattle.flashrules.specs.declared.lookup.Lookup.{Lookup}
 use Rattle.flashrules.proofs.RefusalLaws.{error-first, error-behind}
 use Rattle.parameterrules.specs.Kind.{widthOf, holds}
-use Rattle.parameterrules.specs.Parameter.{valid, inRange, placeTests, getTests, getError, setError}
+use Rattle.parameterrules.specs.Parameter.{valid, inRange, leavesClass, getTests, getError, setError}
 use Rattle.parameterrules.specs.declared.parameter.Parameter.{Parameter}
 use Rattle.parameterrules.proofs.PlaceLaws.{get-numbered}
 
@@ -63,16 +64,8 @@ module _ (p : Parameter) (lo u v : ℤ) (a : lo ≡ p .min) (b : u ≡ v) where
 
 -- ---- errors
 
-module _ (p : Parameter) (len n : ℕ) (w : n ≡ widthOf (p .kind)) where
-  pub leaves : len < p .offset + n → misplacedParameter ≡ firstError (placeTests p len)
-  leaves h = rw (← w, lt-ltb len (p .offset + n) h)
-
-  module _ (h : p .offset + n ≤ len) where
-    pub crosses : blockSize < p .offset % blockSize + n → misplacedParameter ≡ firstError (placeTests p len)
-    crosses k = rw (← w, le-ltb len (p .offset + n) h, lt-ltb blockSize (p .offset % blockSize + n) k)
-
-    pub stays : p .offset % blockSize + n ≤ blockSize → 0 ≡ firstError (placeTests p len)
-    stays k = rw (← w, le-ltb len (p .offset + n) h, le-ltb blockSize (p .offset % blockSize + n) k)
+pub leaves : (p : Parameter) (len n : ℕ) → n ≡ widthOf (p .kind) → ltb len (p .offset + n) ≡ leavesClass p len
+leaves p len n w = rw w
 
 module _ (l : Layout) (size : ℕ) (p : Parameter) (t : Bool) (f : t ≡ fits l size) where
   pub not-fitting : t ≡ false → malformed ≡ getError l size p
@@ -89,9 +82,14 @@ module _ (l : Layout) (size : ℕ) (p : Parameter) (t : Bool) (f : t ≡ fits l 
       unfolding getError
       not-found e q = rw (← f, h, ← v, k, ← c, q)
 
-      pub is-found : (r start len : ℕ) → a ≡ Lookup.Found start len → r ≡ firstError (placeTests p len) → r ≡ getError l size p
-      unfolding getError
-      is-found r start len q e = rw (← f, h, ← v, k, ← c, q) e
+      module _ (start len : ℕ) (q : a ≡ Lookup.Found start len) (u : Bool) (x : u ≡ leavesClass p len) where
+        pub misplaced : u ≡ true → misplacedParameter ≡ getError l size p
+        unfolding getError
+        misplaced j = rw (← f, h, ← v, k, ← c, q, ← x, j)
+
+        pub placed : u ≡ false → 0 ≡ getError l size p
+        unfolding getError
+        placed j = rw (← f, h, ← v, k, ← c, q, ← x, j)
 
 -- 13 comes behind the others
 module _ (l : Layout) (size : ℕ) (p : Parameter) (v : ℤ) (e : ℕ) (q : e ≡ getError l size p) where

@@ -7,29 +7,19 @@ use flashrules::error::MISPLACED_PARAMETER;
 use flashrules::error::OUT_OF_RANGE;
 use flashrules::error::UNKNOWN_CLASS;
 use flashrules::layout::Layout;
-use flashrules::lookup::BLOCK_SIZE;
 use flashrules::lookup::Lookup;
 use integers::kind::width;
 use layout::lookup::find_class;
 use layout::valid::fits;
 use parameterrules::parameter::Parameter;
 ghost use mathlib.Core.Path.{_≡_};
-ghost use Rattle.flashrules.specs.Refusal.{firstError};
-ghost use Rattle.parameterrules.specs.Parameter.{placeTests, getError, setError};
+ghost use Rattle.parameterrules.specs.Parameter.{leavesClass, getError, setError};
 
-// 12 where its bytes leave its class, which has so many, or cross a block's end.
-fn place_error(parameter: Parameter, class_len: usize) -> u8
-    ensures { λ r. ⌜ r ≡ firstError (placeTests parameter «class_len») ⌝ }
+// Whether its bytes leave its class, which has so many.
+fn leaves_class(parameter: Parameter, class_len: usize) -> bool
+    ensures { λ r. ⌜ r ≡ leavesClass parameter «class_len» ⌝ }
 {
-    let offset = parameter.offset as usize;
-    let size = width(parameter.kind);
-    if class_len < offset + size {
-        return MISPLACED_PARAMETER;
-    }
-    if BLOCK_SIZE < offset % BLOCK_SIZE + size {
-        return MISPLACED_PARAMETER;
-    }
-    0
+    class_len < parameter.offset as usize + width(parameter.kind)
 }
 
 // Why a parameter of an image of so many bytes cannot be read.
@@ -41,7 +31,10 @@ pub fn get_error(layout: Layout, image_len: usize, parameter: Parameter) -> u8
             let Lookup::Found { start: _, len } = find_class(layout, parameter.class) else {
                 return UNKNOWN_CLASS;
             };
-            return place_error(parameter, len);
+            if leaves_class(parameter, len) {
+                return MISPLACED_PARAMETER;
+            }
+            return 0;
         }
         return INVALID_PARAMETER;
     }

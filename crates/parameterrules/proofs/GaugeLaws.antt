@@ -1,85 +1,174 @@
--- A parameter through the gauge: what a gauge answers and leaves that is powered on open and told
--- to load its block, to read or to write there.
-use Prim.Native.Nat.{ℕ, _+_, _/_, _%_, _≤_}
-use mathlib.Core.Path.{_≡_, refl}
+-- A parameter through the gauge: what a gauge in full access answers and leaves that is told to
+-- load a block, to read or to write there.
+use Prim.Native.Nat.{ℕ, _+_, _-_, _/_, _%_, _≤_}
+use mathlib.Core.Path.{_≡_, refl, ap, _∙_}
 use mathlib.Core.Logic.{inl}
-use mathlib.Core.Bool.{true}
-use mathlib.Core.List.{List, _++_}
+use mathlib.Core.Bool.{true, false}
+use mathlib.Core.List.{List, [], _∷_, _++_}
 use native.Mathlib.Omega.{arith}
-use lib.ListN.{length, take, drop}
-use lib.Seq.{sets}
+use lib.ListN.{length, take, drop, take-append-drop}
+use lib.Seq.{sets, length-sets, take-all}
 use lib.IntN.{ℤ}
+use borrow.Author.Tests.{eqb-true, ltb-false}
+use Rattle.hextext.proofs.StoreLaws.{sets-on}
 use Rattle.flashrules.specs.Outcome.{outcome}
-use Rattle.flashrules.specs.Layout.{fits}
-use Rattle.flashrules.specs.Lookup.{blockSize}
+use Rattle.flashrules.specs.Answer.{startOf}
+use Rattle.flashrules.specs.Lookup.{blockSize, findClass}
 use Rattle.flashrules.specs.Image.{maxByte, Bytes}
 use Rattle.flashrules.specs.declared.layout.Layout.{Layout}
-use Rattle.gaugerules.specs.State.{bootOpen, powerOn}
+use Rattle.flashrules.proofs.BytesLaws.{bytes-take, bytes-drop}
+use Rattle.flashrules.proofs.Picks.{on-test, on-cond}
+use Rattle.gaugerules.specs.State.{fullAccess, isFullAccess, hasLowSupply, generalAccess}
 use Rattle.gaugerules.specs.Register.{blockData}
 use Rattle.gaugerules.specs.Read.{reading, read}
-use Rattle.gaugerules.specs.Script.{afterCall, afterCalls}
-use Rattle.gaugerules.specs.BlockAccess.{flashSelected, blockSelected, FlashSelects, BlockSelects, BlockWrites}
+use Rattle.gaugerules.specs.Script.{Device, Call, reply, afterCall, afterCalls, imagesAfter, allAccepted}
+use Rattle.gaugerules.specs.Laws.{Good}
+use Rattle.gaugerules.specs.BlockAccess.{flashSelected, blockSelected, blockEdited, FlashSelects, BlockSelects, BlockWrites}
 use Rattle.gaugerules.specs.declared.state.Gauge.{Gauge}
-use Rattle.gaugerules.proofs.Laws.{power-on-valid, select-flash, select-block, read-block, write-block}
+use Rattle.gaugerules.proofs.Laws.{select-flash, select-block, read-block, write-block}
 use Rattle.parameterrules.specs.Integer.{toBytes}
 use Rattle.parameterrules.specs.Kind.{widthOf}
-use Rattle.parameterrules.specs.Parameter.{startIn}
+use Rattle.parameterrules.specs.Parameter.{startIn, set}
+use Rattle.parameterrules.specs.Commits.{lowerWidth, crossesBlock, lowerBytes, upperBytes, betweenCommits}
 use Rattle.parameterrules.specs.Laws.{SetByGauge}
+use Rattle.parameterrules.specs.PowerCut.{SetAccepted, PowerCut}
 use Rattle.parameterrules.specs.declared.parameter.Parameter.{Parameter}
 use Rattle.parameterrules.proofs.IntegerLaws.{to-bytes-length, to-bytes-bytes}
-use Rattle.parameterrules.proofs.PlaceLaws.{Readable, readable, settable, InBlock, in-block, width-some}
+use Rattle.parameterrules.proofs.PlaceLaws.{Readable, readable, settable, InBlock, in-lower, in-upper, lower-length, upper-length}
 use Rattle.parameterrules.proofs.ParameterLaws.{set-free, set-leaves}
 
--- a gauge that is powered on open is good, and gets general access by 0 at 0x61
-pub opened : (l : Layout) (image : List ℕ) → fits l (length image) ≡ true → Bytes image → FlashSelects l image (powerOn bootOpen)
-opened l image f h = select-flash l image (powerOn bootOpen) (record { fits = f; valid = power-on-valid l bootOpen; bytes = h }) refl
+-- ---- a gauge that stands open
 
--- the gauge then
-abbrev pub openGauge : Gauge
-openGauge = flashSelected (powerOn bootOpen)
+-- every block of the image may be read and written
+pub record Open (l : Layout) (image : List ℕ) (g : Gauge) : Type 0 where
+  pub good : Good l image g
+  pub access : generalAccess g ≡ true
+  pub full : isFullAccess g ≡ true
+  pub supplied : hasLowSupply g ≡ false
 
--- and a parameter that can be read
-module _ (l : Layout) (image : List ℕ) (p : Parameter) (r : Readable l (length image) p) (h : Bytes image) (hc : p .class ≤ maxByte) where
-  place : InBlock l (length image) p
-  place = in-block l (length image) p r
+-- one in full access, on a supply that is not low, once it gets general access by 0 at 0x61
+module _ (l : Layout) (image : List ℕ) (g : Gauge) (good : Good l image g) (full : isFullAccess g ≡ true) (supplied : hasLowSupply g ≡ false) where
+  pub flash-selects : FlashSelects l image g
+  flash-selects = select-flash l image g good (rw (eqb-true (g .mode) fullAccess full))
 
-  access : FlashSelects l image (powerOn bootOpen)
-  access = opened l image (r .fitting) h
+  pub stands-open : Open l image (flashSelected g)
+  stands-open = record { good = flash-selects .good; access = flash-selects .access; full = full; supplied = supplied }
 
-  abbrev b : ℕ
-  b = p .offset / blockSize
+-- ---- n bytes of class i, from byte `at` on, inside one block
 
-  abbrev o : ℕ
-  o = p .offset % blockSize
+module _ (l : Layout) (image : List ℕ) (g : Gauge) (i at n : ℕ) (o : Open l image g) (b : InBlock l (length image) i at n) (hc : i ≤ maxByte) where
+  -- the block is loaded
+  pub block-selects : BlockSelects l image g i (at / blockSize)
+  block-selects = select-block l image g i (at / blockSize) (b .start) (b .len) (o .good) (o .access) hc (b .byte) (b .found)
 
-  -- its block is loaded
-  pub parameter-selects : BlockSelects l image openGauge (p .class) b
-  parameter-selects =
-      select-block l image openGauge (p .class) b (place .start) (place .len) (access .good) (access .access) hc (place .byte) (place .found)
+  pub selected-open : Open l image (blockSelected l image g i (at / blockSize))
+  selected-open = record { good = block-selects .good; access = block-selects .access; full = o .full; supplied = o .supplied }
 
-  -- its bytes are read, n of them
-  pub parameter-reads : (n : ℕ) (buffer : List ℕ) → n ≡ widthOf (p .kind) → n ≤ length buffer
-      → read l image (blockSelected l image openGauge (p .class) b) (blockData + o) n buffer
-      ≡ outcome (reading 0 n) (take n (drop (startIn l p) image) ++ drop n buffer)
-  parameter-reads n buffer w room =
-      rw (← place .place)
-      (read-block l image openGauge (p .class) b (place .start) (place .len) (access .good) (access .access) hc (place .byte) (place .found) o n buffer
-      (omega (arith, w, width-some l (length image) p r)) (omega (arith, w, place .end)) room)
+  -- they are read
+  pub block-reads : (buffer : List ℕ) → n ≤ length buffer
+      → read l image (blockSelected l image g i (at / blockSize)) (blockData + at % blockSize) n buffer
+      ≡ outcome (reading 0 n) (take n (drop (startOf (findClass l i) + at) image) ++ drop n buffer)
+  block-reads buffer room =
+      rw (← b .place)
+      (read-block l image g i (at / blockSize) (b .start) (b .len) (o .good) (o .access) hc (b .byte) (b .found) (at % blockSize) n buffer (b .some) (b .end) room)
 
-  -- a value is written
-  pub parameter-writes : (v : ℤ) → let bs = toBytes (widthOf (p .kind)) v in
-      BlockWrites l image openGauge (p .class) b o bs (sets image (startIn l p) bs)
-  parameter-writes v =
-      let w = widthOf (p .kind) in
-      let n = to-bytes-length w v in
-      rw (← place .place)
-      (write-block l image openGauge (p .class) b (place .start) (place .len) (access .good) (access .access) refl hc (place .byte) (place .found) o (toBytes w v)
-      (to-bytes-bytes w v) (omega (arith, n, width-some l (length image) p r)) (omega (arith, n, place .end)) (inl refl))
+  -- others are written
+  module _ (bs : List ℕ) (bytes : Bytes bs) (m : length bs ≡ n) where
+    abbrev to : List ℕ
+    to = sets image (startOf (findClass l i) + at) bs
+
+    pub block-writes : BlockWrites l image g i (at / blockSize) (at % blockSize) bs to
+    block-writes =
+        let some = b .some in
+        let end = b .end in
+        rw (← b .place)
+        (write-block l image g i (at / blockSize) (b .start) (b .len) (o .good) (o .access) (o .supplied) hc (b .byte) (b .found) (at % blockSize) bs
+        bytes (omega arith) (omega arith) (inl (o .full)))
+
+    pub edited-open : Open l to (blockEdited l image g i (at / blockSize) (at % blockSize) bs)
+    edited-open = record { good = block-writes .good; access = block-writes .access; full = o .full; supplied = o .supplied }
+
+-- ---- the bytes of a parameter
+
+module _ (l : Layout) (image : List ℕ) (g : Gauge) (p : Parameter) (v : ℤ) (o : Open l image g) (r : Readable l (length image) p) (hc : p .class ≤ maxByte) where
+  abbrev value : List ℕ
+  value = toBytes (widthOf (p .kind)) v
+
+  abbrev upper : ℕ
+  upper = p .offset + lowerWidth p
+
+  abbrev between : List ℕ
+  between = betweenCommits l image p v
+
+  -- the gauge after the first commit
+  abbrev pub lowerGauge : Gauge
+  lowerGauge = blockEdited l image g (p .class) (p .offset / blockSize) (p .offset % blockSize) (lowerBytes p v)
+
+  lower-bytes : Bytes (lowerBytes p v)
+  lower-bytes = bytes-take (lowerWidth p) value (to-bytes-bytes (widthOf (p .kind)) v)
+
+  pub lower-writes : BlockWrites l image g (p .class) (p .offset / blockSize) (p .offset % blockSize) (lowerBytes p v) between
+  lower-writes =
+      block-writes l image g (p .class) (p .offset) (lowerWidth p) o (in-lower l (length image) p r) hc (lowerBytes p v) lower-bytes (lower-length p v)
+
+  -- where all bytes lie in the lower block, that is all
+  between-all : crossesBlock p ≡ false → between ≡ sets image (startIn l p) value
+  between-all c =
+      let n = to-bytes-length (widthOf (p .kind)) v in
+      ap (sets image (startIn l p)) (take-all (lowerWidth p) value (omega (arith, n, ltb-false (lowerWidth p) (widthOf (p .kind)) c)))
+
+  pub upper-writes : crossesBlock p ≡ true
+      → BlockWrites l between lowerGauge (p .class) (upper / blockSize) (upper % blockSize) (upperBytes p v) (sets image (startIn l p) value)
+  upper-writes c =
+      let same : length between ≡ length image = length-sets image (startIn l p) (lowerBytes p v) in
+      let stands : Open l between lowerGauge = edited-open l image g (p .class) (p .offset) (lowerWidth p) o (in-lower l (length image) p r) hc (lowerBytes p v) lower-bytes (lower-length p v) in
+      let place : InBlock l (length between) (p .class) upper (widthOf (p .kind) - lowerWidth p) = rw same (in-upper l (length image) p r c) in
+      let next : startOf (findClass l (p .class)) + upper ≡ startIn l p + length (lowerBytes p v) = omega (arith, lower-length p v) in
+      let whole = rw (take-append-drop (lowerWidth p) value) at (sets-on image between (startIn l p) (startOf (findClass l (p .class)) + upper) (lowerBytes p v) (upperBytes p v) refl next) in
+      rw whole at
+      (block-writes l between lowerGauge (p .class) upper (widthOf (p .kind) - lowerWidth p) stands place hc (upperBytes p v) (bytes-drop (lowerWidth p) value (to-bytes-bytes (widthOf (p .kind)) v)) (upper-length p v))
+
+-- ---- the claims
+
+pub power-cut : PowerCut
+unfolding imagesAfter afterCall outcome
+power-cut l image g p v good full supplied hc e =
+    let f = set-free l image p v e in
+    let s = set-leaves l image p v f in
+    let r = readable l (length image) p (settable l (length image) p v f .0) in
+    let z = flash-selects l image g good full supplied in
+    let o = stands-open l image g good full supplied in
+    let a = lower-writes l image (flashSelected g) p v o r hc in
+    on-test (crossesBlock p)
+    (λ c.
+    let b = upper-writes l image (flashSelected g) p v o r hc c in
+    rw (s, c, z .accepted, a .select, a .edit, a .commit, b .select, b .edit, b .commit))
+    (λ c. rw (s, c, z .accepted, a .select, a .edit, a .commit, between-all l image (flashSelected g) p v o r hc c))
+
+pub set-accepted : SetAccepted
+unfolding allAccepted reply afterCall outcome
+set-accepted l image g p v good full supplied hc e =
+    let r = readable l (length image) p (settable l (length image) p v (set-free l image p v e) .0) in
+    let z = flash-selects l image g good full supplied in
+    let o = stands-open l image g good full supplied in
+    let a = lower-writes l image (flashSelected g) p v o r hc in
+    on-test (crossesBlock p)
+    (λ c.
+    let b = upper-writes l image (flashSelected g) p v o r hc c in
+    rw (c, z .accepted, a .select, a .edit, a .commit, b .select, b .edit, b .commit))
+    (λ c. rw (c, z .accepted, a .select, a .edit, a .commit))
+
+-- the last of them, or the one before the first call
+abbrev lastOf : List ℕ → List (List ℕ) → List ℕ
+lastOf image [] = image
+lastOf image (x ∷ xs) = lastOf x xs
+
+images-last : (l : Layout) (d : Device) (cs : List Call) → afterCalls l d cs .image ≡ lastOf (d .image) (imagesAfter l d cs)
+unfolding afterCalls imagesAfter
+images-last l d [] = refl
+images-last l d (c ∷ cs) = images-last l (afterCall l d c) cs
 
 pub set-by-gauge : SetByGauge
-unfolding afterCalls afterCall outcome
-set-by-gauge l image p v h hc e =
-    let f = set-free l image p v e in
-    let r = readable l (length image) p (settable l (length image) p v f .0) in
-    let w = parameter-writes l image p r h hc v in
-    rw (set-leaves l image p v f, opened l image (r .fitting) h .accepted, w .select, w .edit, w .commit)
+set-by-gauge l image g p v good full supplied hc e =
+    images-last l _ _ ∙ ap (lastOf image) (power-cut l image g p v good full supplied hc e)
+    ∙ on-cond (λ (xs : List (List ℕ)). lastOf image xs ≡ set l image p v .lent) (crossesBlock p) _ _ (λ _. refl) (λ _. refl)

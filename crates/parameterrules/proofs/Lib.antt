@@ -2,4 +2,5 @@ pub mod Laws
 pub mod IntegerLaws
 pub mod PlaceLaws
 pub mod ParameterLaws
+pub mod PowerCutLaws
 pub mod GaugeLaws

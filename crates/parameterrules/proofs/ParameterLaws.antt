@@ -1,27 +1,27 @@
 -- The claims about parameters: what setting leaves, what is then read, and what the gauge does that
 -- is sent the same.
-use Prim.Native.Nat.{ℕ, _+_, _/_, _^_, _≤_, _<_}
+use Prim.Native.Nat.{ℕ, _+_, _-_, _/_, _^_, _≤_, _<_}
 use mathlib.Core.Path.{_≡_, refl, sym, ap, _∙_}
 use mathlib.Core.Logic.{inl, inr, ⊎-elim}
 use mathlib.Core.Bool.{Bool, true, false, not, true≢false}
-use mathlib.Core.List.{List, [], _∷_, append-nil}
+use mathlib.Core.List.{List, [], _∷_, _++_, append-assoc, append-nil}
 use native.Mathlib.Omega.{arith}
 use lib.Dec.{eqb}
 use lib.ListN.{length, take, drop}
-use lib.Seq.{paste, sets, length-sets, take-all}
+use lib.Seq.{paste, sets, sets-eq, length-sets, length-take-le, drop-length, drop-at, drop-drop, take-append-add}
 use lib.IntN.{ℤ, pos, negsuc}
 use lib.Signed.{leZ}
 use borrow.Author.Tests.{eqb-true, ltb-true, lt-ltb, leb-true}
 use Rattle.flashrules.specs.Error.{outOfRange}
 use Rattle.flashrules.specs.Outcome.{outcome}
 use Rattle.flashrules.specs.declared.layout.Layout.{Layout}
-use Rattle.flashrules.proofs.PartLaws.{part-length, part-paste, paste-below, paste-above, part-apart, sets-paste, paste-self}
+use Rattle.flashrules.proofs.PartLaws.{part-length, drop-front, paste-below, paste-above, part-apart, sets-paste, paste-self}
 use Rattle.flashrules.proofs.BytesLaws.{bytes-take, bytes-drop}
 use Rattle.flashrules.proofs.RefusalLaws.{error-behind}
 use Rattle.flashrules.proofs.Picks.{on-test, and-first, and-rest}
 use Rattle.parameterrules.specs.Integer.{toBytes, fromBytes, fitsIn}
 use Rattle.parameterrules.specs.Kind.{widthOf, isSigned, holds}
-use Rattle.parameterrules.specs.Parameter.{valid, inRange, getTests, getError, setError, startIn, valueIn, parameterValue, get, set}
+use Rattle.parameterrules.specs.Parameter.{valid, inRange, getTests, getError, setError, startIn, rowBytes, valueIn, parameterValue, get, set}
 use Rattle.parameterrules.specs.Laws.{SetRefused, Replaced, SetReplaces, SetThenGet, GetThenSet, SetElsewhere}
 use Rattle.parameterrules.specs.declared.parameter.Parameter.{Parameter}
 use Rattle.parameterrules.proofs.IntegerLaws.{to-bytes-length, to-from-bytes, from-to-bytes}
@@ -44,44 +44,57 @@ pub set-leaves : (l : Layout) (image : List ℕ) (p : Parameter) (v : ℤ) → s
 unfolding set
 set-leaves l image p v e = rw e
 
-module _ (l : Layout) (image : List ℕ) (p : Parameter) (v : ℤ) (r : Readable l (length image) p) where
+-- bytes that are set from the first of a row's on
+module _ (l : Layout) (image : List ℕ) (p : Parameter) (r : Readable l (length image) p) (bs : List ℕ) (few : length bs ≤ widthOf (p .kind)) where
   abbrev at : ℕ
   at = startIn l p
 
-  abbrev width : ℕ
-  width = widthOf (p .kind)
+  abbrev n : ℕ
+  n = length bs
 
-  abbrev bytes : List ℕ
-  bytes = toBytes width v
+  end : at + n ≤ length image
+  end = omega (arith, bytes-end l (length image) p r)
 
-  end : at + width ≤ length image
-  end = bytes-end l (length image) p r
+  pasted : sets image at bs ≡ paste image at bs n
+  pasted = sets-paste image bs at end
 
-  pasted : sets image at bytes ≡ paste image at bytes width
-  pasted =
-      let n = to-bytes-length width v in
-      sets-paste image bytes at (omega (arith, n, end)) ∙ ap (paste image at bytes) n
+  -- the row then: they, and behind them what was there
+  row-then : rowBytes l (sets image at bs) p ≡ bs ++ drop n (rowBytes l image p)
+  row-then =
+      let rest = widthOf (p .kind) - n in
+      let whole : widthOf (p .kind) ≡ n + rest = omega arith in
+      rw (whole, sets-eq bs image at end, append-assoc, drop-at (take at image) (bs ++ drop (at + n) image) at (length-take-le at image (omega (arith, end))), take-append-add bs (drop (at + n) image) rest, drop-front n rest (drop at image), drop-drop n at image)
 
-  long : width ≤ length bytes
-  long = omega (arith, to-bytes-length width v)
-
-  whole : take width bytes ≡ bytes
-  whole = take-all width bytes (omega (arith, to-bytes-length width v))
-
-  replaced : Replaced l image p v (sets image at bytes)
+  pub replaced : Replaced l image p (bs ++ drop n (rowBytes l image p)) (sets image at bs)
   replaced =
       record {
-        size = length-sets image at bytes;
-        here = rw pasted (part-paste image bytes at width end long ∙ whole);
-        outside = λ j. ⊎-elim (λ (h : j < at). rw pasted (paste-below image bytes at width end long j h))
-            (λ (h : at + width ≤ j). rw pasted (paste-above image bytes at width end long j h));
+        size = length-sets image at bs;
+        here = row-then;
+        outside = λ j. ⊎-elim (λ (h : j < at). rw pasted (paste-below image bs at n end (omega arith) j h))
+            (λ (h : at + widthOf (p .kind) ≤ j). rw pasted (paste-above image bs at n end (omega arith) j (omega arith)));
       }
+
+-- a whole value
+module _ (l : Layout) (image : List ℕ) (p : Parameter) (r : Readable l (length image) p) (v : ℤ) where
+  few-bytes : length (toBytes (widthOf (p .kind)) v) ≤ widthOf (p .kind)
+  few-bytes = omega (arith, to-bytes-length (widthOf (p .kind)) v)
+
+  none-behind : toBytes (widthOf (p .kind)) v ++ drop (length (toBytes (widthOf (p .kind)) v)) (rowBytes l image p) ≡ toBytes (widthOf (p .kind)) v
+  none-behind =
+      let w = widthOf (p .kind) in
+      let row = rowBytes l image p in
+      let long : length row ≡ w = part-length image (startIn l p) w (bytes-end l (length image) p r) in
+      let none : drop w row ≡ [] = ap (λ (k : ℕ). drop k row) (sym long) ∙ drop-length row in
+      rw (to-bytes-length w v, none, append-nil)
+
+  value-replaced : Replaced l image p (toBytes (widthOf (p .kind)) v) (sets image (startIn l p) (toBytes (widthOf (p .kind)) v))
+  value-replaced = rw none-behind at (replaced l image p r (toBytes (widthOf (p .kind)) v) few-bytes)
 
 pub set-replaces : SetReplaces
 unfolding outcome
 set-replaces l image p v h =
     let e = set-free l image p v h in
-    rw (set-leaves l image p v e) (replaced l image p v (readable l (length image) p (settable l (length image) p v e .0)))
+    rw (set-leaves l image p v e) (value-replaced l image p (readable l (length image) p (settable l (length image) p v e .0)) v)
 
 -- ---- what is then read
 
@@ -109,7 +122,7 @@ in-range-fits p v s r =
     fits-between (isSigned (p .kind)) (widthOf (p .kind)) (p .min) v (p .max) (search (and-first, and-rest)) (search (and-first, and-rest))
     (search (and-first, and-rest)) (search (and-first, and-rest))
 
-get-reads : (l : Layout) (image : List ℕ) (p : Parameter) (v : ℤ) → getError l (length image) p ≡ 0 → valueIn l image p ≡ v
+pub get-reads : (l : Layout) (image : List ℕ) (p : Parameter) (v : ℤ) → getError l (length image) p ≡ 0 → valueIn l image p ≡ v
     → get l image p ≡ parameterValue 0 v (inRange p v)
 unfolding get
 get-reads l image p v e q = rw (e, q)
@@ -120,7 +133,7 @@ set-then-get l image p v h =
     let e = set-free l image p v h in
     let s = settable l (length image) p v e in
     let r = readable l (length image) p (s .0) in
-    let c = replaced l image p v r in
+    let c = value-replaced l image p r v in
     let to = sets image (startIn l p) (toBytes (widthOf (p .kind)) v) in
     let same : getError l (length to) p ≡ 0 = rw (c .size) (s .0) in
     let value = ap (fromBytes (isSigned (p .kind))) (c .here) ∙ to-from-bytes (isSigned (p .kind)) (widthOf (p .kind)) v (in-range-fits p v (r .sound) (s .1)) in
@@ -174,11 +187,13 @@ unfolding outcome valueIn
 set-elsewhere l image p q v h apart =
     let e = set-free l image p v h in
     let r = readable l (length image) p (settable l (length image) p v e .0) in
-    let to = sets image (startIn l p) (toBytes (widthOf (p .kind)) v) in
     let bytes = toBytes (widthOf (p .kind)) v in
+    let n = to-bytes-length (widthOf (p .kind)) v in
+    let few = few-bytes l image p r v in
+    let to = sets image (startIn l p) bytes in
     rw (set-leaves l image p v e)
     (get-same l image to q (length-sets image (startIn l p) bytes)
     (λ s. ap (fromBytes (isSigned (q .kind)))
-    (rw (pasted l image p v r)
-    (part-apart image bytes (startIn l p) (widthOf (p .kind)) (end l image p v r) (long l image p v r) (startIn l q) (widthOf (q .kind)) (bytes-end l (length image) q s)
-    (⊎-elim (λ (d : startIn l q + widthOf (q .kind) ≤ startIn l p). inr d) (λ (d : startIn l p + widthOf (p .kind) ≤ startIn l q). inl d) apart)))))
+    (rw (pasted l image p r bytes few)
+    (part-apart image bytes (startIn l p) (length bytes) (end l image p r bytes few) (omega arith) (startIn l q) (widthOf (q .kind)) (bytes-end l (length image) q s)
+    (⊎-elim (λ (d : startIn l q + widthOf (q .kind) ≤ startIn l p). inr d) (λ (d : startIn l p + widthOf (p .kind) ≤ startIn l q). inl (omega arith)) apart)))))

@@ -1,12 +1,16 @@
 -- Laws of the place of a parameter: what one has that is not refused, where its bytes lie, and in
--- which block.
+-- which blocks.
 use Prim.Native.Nat.{ℕ, _+_, _-_, _*_, _/_, _%_, _≤_, _<_, min}
 use mathlib.Core.Path.{_≡_}
-use mathlib.Core.Bool.{true, false, true≢false}
+use mathlib.Core.Bool.{Bool, true, false, cond, true≢false}
 use native.Mathlib.Omega.{arith}
+use lib.Dec.{eqb}
+use lib.ListN.{length, length-drop}
+use lib.Seq.{length-take-le}
 use lib.IntN.{ℤ}
-use borrow.Author.Tests.{ltb-false, lt-ltb, leb-true, not-false}
+use borrow.Author.Tests.{ltb-true, ltb-false, lt-ltb, leb-true, not-false}
 use Rattle.flashrules.specs.Refusal.{Numbered}
+use Rattle.flashrules.specs.Answer.{startOf}
 use Rattle.flashrules.specs.Layout.{maxImageLength, classes, fits}
 use Rattle.flashrules.specs.Lookup.{blockSize, findClass, findBlock}
 use Rattle.flashrules.specs.Image.{maxByte}
@@ -16,9 +20,12 @@ use Rattle.flashrules.proofs.Laws.{no-error}
 use Rattle.flashrules.proofs.LayoutLaws.{valid-parts, fits-parts}
 use Rattle.flashrules.proofs.LookupLaws.{locate-inside}
 use Rattle.flashrules.proofs.Picks.{on-answer, and-first}
-use Rattle.parameterrules.specs.Kind.{widthOf}
+use Rattle.parameterrules.specs.Kind.{signedBit, maxWidth, widthOf}
 use Rattle.parameterrules.specs.Parameter.{valid, inRange, getTests, getError, setTests, setError, startIn}
+use Rattle.parameterrules.specs.Commits.{lowerWidth, crossesBlock, lowerBytes, upperBytes}
+use Rattle.parameterrules.specs.PowerCut.{UpperBlock}
 use Rattle.parameterrules.specs.declared.parameter.Parameter.{Parameter}
+use Rattle.parameterrules.proofs.IntegerLaws.{to-bytes-length}
 
 -- ---- what a parameter has that is not refused
 
@@ -29,7 +36,6 @@ pub record Readable (l : Layout) (size : ℕ) (p : Parameter) : Type 0 where
   pub sound : valid p ≡ true
   pub class : findClass l (p .class) ≡ Lookup.Found base len
   pub inside : p .offset + widthOf (p .kind) ≤ len
-  pub block : p .offset % blockSize + widthOf (p .kind) ≤ blockSize
   pub end : base + len ≤ size
   pub small : size ≤ maxImageLength
 
@@ -43,7 +49,7 @@ class-inside l size i s n f q =
 
 -- no test has the number 0
 pub get-numbered : (l : Layout) (size : ℕ) (p : Parameter) → Numbered (getTests l size p)
-get-numbered l size p = (omega arith, (omega arith, (omega arith, (omega arith, (omega arith, tt)))))
+get-numbered l size p = (omega arith, (omega arith, (omega arith, (omega arith, tt))))
 
 pub readable : (l : Layout) (size : ℕ) (p : Parameter) → getError l size p ≡ 0 → Readable l size p
 unfolding getError
@@ -60,7 +66,6 @@ readable l size p e =
       sound = not-false _ (t .1 .0);
       class = q;
       inside = ltb-false n _ (rw q at (t .1 .1 .1 .0));
-      block = ltb-false blockSize _ (t .1 .1 .1 .1 .0);
       end = c .0;
       small = c .1;
     })
@@ -70,9 +75,9 @@ readable l size p e =
 pub settable : (l : Layout) (size : ℕ) (p : Parameter) (v : ℤ) → setError l size p v ≡ 0 → (getError l size p ≡ 0) × (inRange p v ≡ true)
 unfolding setError getError
 settable l size p v e =
-    let t = no-error (setTests l size p v) (omega arith, (omega arith, (omega arith, (omega arith, (omega arith, (omega arith, tt)))))) .0 e in
+    let t = no-error (setTests l size p v) (omega arith, (omega arith, (omega arith, (omega arith, (omega arith, tt))))) .0 e in
     let g = no-error (getTests l size p) (get-numbered l size p) .1 in
-    (g (t .0, (t .1 .0, (t .1 .1 .0, (t .1 .1 .1 .0, (t .1 .1 .1 .1 .0, tt))))), not-false _ (t .1 .1 .1 .1 .1 .0))
+    (g (t .0, (t .1 .0, (t .1 .1 .0, (t .1 .1 .1 .0, tt)))), not-false _ (t .1 .1 .1 .1 .0))
 
 -- where its bytes lie in the image
 bytes-start : (l : Layout) (size : ℕ) (p : Parameter) (r : Readable l size p) → startIn l p ≡ r .base + p .offset
@@ -85,15 +90,41 @@ pub width-some : (l : Layout) (size : ℕ) (p : Parameter) → Readable l size p
 unfolding valid
 width-some l size p r = leb-true 1 (widthOf (p .kind)) (and-first _ _ (r .sound))
 
--- ---- its block
+-- no kind has more bytes
+pub width-most : (kind : ℕ) → widthOf kind ≤ maxWidth
+unfolding widthOf
+width-most kind =
+    let n = kind % signedBit in
+    few (eqb n 1) 1 _ (omega arith) (few (eqb n 2) 2 _ (omega arith) (few (eqb n 4) 4 0 (omega arith) (omega arith)))
+  where
+    few : (t : Bool) (a b : ℕ) → a ≤ maxWidth → b ≤ maxWidth → cond t a b ≤ maxWidth
+    few true a b h k = h
+    few false a b h k = k
 
-pub record InBlock (l : Layout) (size : ℕ) (p : Parameter) : Type 0 where
+-- ---- its blocks
+
+pub upper-block : UpperBlock
+upper-block p c =
+    let h = ltb-true (lowerWidth p) (widthOf (p .kind)) c in
+    let most = width-most (p .kind) in
+    (omega arith, omega arith, omega arith)
+
+-- how many bytes go to each
+pub lower-length : (p : Parameter) (v : ℤ) → length (lowerBytes p v) ≡ lowerWidth p
+lower-length p v = length-take-le (lowerWidth p) _ (omega (arith, to-bytes-length (widthOf (p .kind)) v))
+
+pub upper-length : (p : Parameter) (v : ℤ) → length (upperBytes p v) ≡ widthOf (p .kind) - lowerWidth p
+upper-length p v = rw (length-drop, to-bytes-length (widthOf (p .kind)) v)
+
+-- n bytes of class i from byte `at` on lie in one block
+pub record InBlock (l : Layout) (size i at n : ℕ) : Type 0 where
   pub start : ℕ
   pub len : ℕ
-  pub found : findBlock l size (p .class) (p .offset / blockSize) ≡ Lookup.Found start len
-  pub end : p .offset % blockSize + widthOf (p .kind) ≤ len
-  pub place : start + p .offset % blockSize ≡ startIn l p
-  pub byte : p .offset / blockSize ≤ maxByte
+  pub found : findBlock l size i (at / blockSize) ≡ Lookup.Found start len
+  pub some : 1 ≤ n
+  pub end : at % blockSize + n ≤ len
+  pub place : start + at % blockSize ≡ startOf (findClass l i) + at
+  pub byte : at / blockSize ≤ maxByte
 
 -- the lookup of a block of a class that was found
 block-of : (l : Layout) (size i b s n : ℕ) → fits l size ≡ true → findClass l i ≡ Lookup.Found s n → blockSize * b < n
@@ -103,19 +134,30 @@ block-of l size i b s n f q h =
     let c = rw (fits-parts l size f .0) at q in
     rw (f, c, lt-ltb (blockSize * b) n h)
 
-pub in-block : (l : Layout) (size : ℕ) (p : Parameter) → Readable l size p → InBlock l size p
-in-block l size p r =
-    let some = width-some l size p r in
-    let b = p .offset / blockSize in
-    let inside = r .inside in
-    let block = r .block in
-    let end = r .end in
-    let small = r .small in
-    record {
-      start = r .base + blockSize * b;
-      len = min blockSize (r .len - blockSize * b);
-      found = block-of l size (p .class) b (r .base) (r .len) (r .fitting) (r .class) (omega arith);
-      end = omega arith;
-      place = omega (arith, bytes-start l size p r);
-      byte = omega arith;
-    }
+module _ (l : Layout) (size : ℕ) (p : Parameter) (r : Readable l size p) where
+  in-block : (at n : ℕ) → 1 ≤ n → at + n ≤ p .offset + widthOf (p .kind) → at % blockSize + n ≤ blockSize → InBlock l size (p .class) at n
+  in-block at n some inside block =
+      let b = at / blockSize in
+      let whole = r .inside in
+      let end = r .end in
+      let small = r .small in
+      record {
+        start = r .base + blockSize * b;
+        len = min blockSize (r .len - blockSize * b);
+        found = block-of l size (p .class) b (r .base) (r .len) (r .fitting) (r .class) (omega arith);
+        some = some;
+        end = omega arith;
+        place = rw (r .class) (omega arith);
+        byte = omega arith;
+      }
+
+  pub in-lower : InBlock l size (p .class) (p .offset) (lowerWidth p)
+  in-lower =
+      let some = width-some l size p r in
+      in-block (p .offset) (lowerWidth p) (omega arith) (omega arith) (omega arith)
+
+  pub in-upper : crossesBlock p ≡ true → InBlock l size (p .class) (p .offset + lowerWidth p) (widthOf (p .kind) - lowerWidth p)
+  in-upper c =
+      let h = ltb-true (lowerWidth p) (widthOf (p .kind)) c in
+      let u = upper-block p c in
+      in-block (p .offset + lowerWidth p) (widthOf (p .kind) - lowerWidth p) (omega arith) (omega arith) (omega (arith, u .1, u .2))

@@ -1,24 +1,23 @@
 -- What the rules of integers and parameters amount to, claim by claim. proofs/Laws.antt has a proof
 -- of each, under its name in small letters.
-use Prim.Native.Nat.{ℕ, suc, _+_, _/_, _%_, _^_, _≤_, _<_}
+use Prim.Native.Nat.{ℕ, suc, _+_, _^_, _≤_, _<_}
 use mathlib.Core.Path.{_≡_}
 use mathlib.Core.Logic.{_⊎_}
-use mathlib.Core.Bool.{Bool, true}
-use mathlib.Core.List.{List, [], _∷_}
-use lib.ListN.{length, getD, take, drop}
-use lib.Seq.{sets}
+use mathlib.Core.Bool.{Bool, true, false}
+use mathlib.Core.List.{List}
+use lib.ListN.{length, getD}
 use lib.IntN.{ℤ, pos, negsuc}
-use Rattle.checksum.specs.Checksum.{checksum}
 use Rattle.flashrules.specs.Outcome.{outcome}
-use Rattle.flashrules.specs.Lookup.{blockSize}
-use Rattle.flashrules.specs.Image.{maxByte, Bytes, blockBytes, asLoaded}
+use Rattle.flashrules.specs.Image.{maxByte, Bytes}
 use Rattle.flashrules.specs.declared.layout.Layout.{Layout}
-use Rattle.gaugerules.specs.State.{bootOpen, controlFlash, powerOn}
-use Rattle.gaugerules.specs.Register.{dataFlashClass, blockData, blockDataChecksum, blockDataControl}
-use Rattle.gaugerules.specs.Script.{device, Call, toWrite, afterCalls}
+use Rattle.gaugerules.specs.State.{isFullAccess, hasLowSupply}
+use Rattle.gaugerules.specs.Script.{device, afterCalls}
+use Rattle.gaugerules.specs.Laws.{Good}
+use Rattle.gaugerules.specs.declared.state.Gauge.{Gauge}
 use Rattle.parameterrules.specs.Integer.{unsigned, toBytes, fromBytes, fitsIn}
 use Rattle.parameterrules.specs.Kind.{widthOf}
-use Rattle.parameterrules.specs.Parameter.{startIn, parameterValue, get, set}
+use Rattle.parameterrules.specs.Parameter.{startIn, rowBytes, parameterValue, get, set}
+use Rattle.parameterrules.specs.Commits.{setCalls}
 use Rattle.parameterrules.specs.declared.parameter.Parameter.{Parameter}
 
 -- ---- integers in bytes, of every width, signed or not
@@ -59,17 +58,17 @@ SetRefused =
     (l : Layout) (image : List ℕ) (p : Parameter) (v : ℤ) → let s = set l image p v in
     (s .answer ≡ 0 → ⊥) → s .lent ≡ image
 
--- 01: "Setting changes exactly the bytes of that row": they are the value's, and every other byte
--- is what it was
-pub record Replaced (l : Layout) (image : List ℕ) (p : Parameter) (v : ℤ) (to : List ℕ) : Type 0 where
+-- a row's bytes are these, and every other byte is what it was
+pub record Replaced (l : Layout) (image : List ℕ) (p : Parameter) (bs to : List ℕ) : Type 0 where
   pub size : length to ≡ length image
-  pub here : take (widthOf (p .kind)) (drop (startIn l p) to) ≡ toBytes (widthOf (p .kind)) v
+  pub here : rowBytes l to p ≡ bs
   pub outside : (j : ℕ) → (j < startIn l p) ⊎ (startIn l p + widthOf (p .kind) ≤ j) → getD to j 0 ≡ getD image j 0
 
+-- 01: "Setting changes exactly the bytes of that row"
 abbrev pub SetReplaces : Type 0
 SetReplaces =
     (l : Layout) (image : List ℕ) (p : Parameter) (v : ℤ) → let s = set l image p v in
-    s .answer ≡ 0 → Replaced l image p v (s .lent)
+    s .answer ≡ 0 → Replaced l image p (toBytes (widthOf (p .kind)) v) (s .lent)
 
 -- what was set is read, and in range
 abbrev pub SetThenGet : Type 0
@@ -93,23 +92,11 @@ SetElsewhere =
 
 -- ---- through the gauge
 
--- what a programmer sends to set bytes of a block: 0 to 0x61, class and block to 0x3E, the bytes to
--- 0x40 on, and the checksum of the window then
-abbrev pub blockCalls : Layout → List ℕ → ℕ → ℕ → ℕ → List ℕ → List Call
-blockCalls l image i b o bs =
-    toWrite blockDataControl (controlFlash ∷ [])
-    ∷ toWrite dataFlashClass (i ∷ b ∷ [])
-    ∷ toWrite (blockData + o) bs
-    ∷ toWrite blockDataChecksum (checksum (sets (asLoaded (blockBytes l image i b)) o bs) ∷ [])
-    ∷ []
-
 -- 01: "the image becomes what a full access gauge leaves that loads the block, writes them and
--- commits"
+-- commits", any that is valid and on a supply that is not low; C-17: by two commits where the row
+-- crosses a block's end
 abbrev pub SetByGauge : Type 0
 SetByGauge =
-    (l : Layout) (image : List ℕ) (p : Parameter) (v : ℤ) → let s = set l image p v in
-    Bytes image → p .class ≤ maxByte → s .answer ≡ 0
-    → afterCalls l (device (powerOn bootOpen) image)
-    (blockCalls l image (p .class) (p .offset / blockSize) (p .offset % blockSize) (toBytes (widthOf (p .kind)) v))
-    .image
-    ≡ s .lent
+    (l : Layout) (image : List ℕ) (g : Gauge) (p : Parameter) (v : ℤ) → let s = set l image p v in
+    Good l image g → isFullAccess g ≡ true → hasLowSupply g ≡ false → p .class ≤ maxByte → s .answer ≡ 0
+    → afterCalls l (device g image) (setCalls l image p v) .image ≡ s .lent

@@ -1,7 +1,7 @@
 -- Parameters: when one is valid, where its bytes stand, and what reading and setting it answer and
 -- leave. Document 01, "The parameter desk", and "Numbers of the refusals": "For the desk: 10, 11,
 -- 4, 12, 13."
-use Prim.Native.Nat.{ℕ, _+_, _%_}
+use Prim.Native.Nat.{ℕ, _+_}
 use mathlib.Core.Bool.{Bool, true, false, cond, not}
 use mathlib.Core.List.{List, [], _∷_, _++_}
 use lib.Dec.{eqb, leb, ltb}
@@ -15,7 +15,7 @@ use Rattle.flashrules.specs.Outcome.{Outcome, outcome}
 use Rattle.flashrules.specs.Choice.{and}
 use Rattle.flashrules.specs.Answer.{ifFound, startOf, lengthOf}
 use Rattle.flashrules.specs.Layout.{fits}
-use Rattle.flashrules.specs.Lookup.{blockSize, findClass}
+use Rattle.flashrules.specs.Lookup.{findClass}
 use Rattle.flashrules.specs.declared.layout.Layout.{Layout}
 use Rattle.parameterrules.specs.Integer.{toBytes, fromBytes}
 use Rattle.parameterrules.specs.Kind.{widthOf, isSigned, holds}
@@ -43,16 +43,9 @@ inRange p v = and (leZ (p .min) v ∷ leZ v (p .max) ∷ [])
 abbrev pub classMissing : Layout → Parameter → Bool
 classMissing l p = ifFound (findClass l (p .class)) (λ s n. false) (λ e. true)
 
--- 12: "parameter leaves its class ..", which has so many bytes
+-- 12: 02, C-17, "only for a row that leaves its class", which has so many bytes
 abbrev pub leavesClass : Parameter → ℕ → Bool
 leavesClass p len = ltb len (p .offset + widthOf (p .kind))
-
--- ".. or crosses a block's end"
-abbrev pub crossesBlock : Parameter → Bool
-crossesBlock p = ltb blockSize (p .offset % blockSize + widthOf (p .kind))
-
-abbrev pub placeTests : Parameter → ℕ → List (Bool × ℕ)
-placeTests p len = (leavesClass p len, misplacedParameter) ∷ (crossesBlock p, misplacedParameter) ∷ []
 
 -- 10, 11, 4, 12. The image has `size` bytes
 abbrev pub getTests : Layout → ℕ → Parameter → List (Bool × ℕ)
@@ -60,7 +53,8 @@ getTests l size p =
     (not (fits l size), malformed)
     ∷ (not (valid p), invalidParameter)
     ∷ (classMissing l p, unknownClass)
-    ∷ placeTests p (lengthOf (findClass l (p .class)))
+    ∷ (leavesClass p (lengthOf (findClass l (p .class))), misplacedParameter)
+    ∷ []
 
 unfoldable pub getError : Layout → ℕ → Parameter → ℕ
 getError l size p = firstError (getTests l size p)
@@ -78,9 +72,12 @@ setError l size p v = firstError (setTests l size p v)
 abbrev pub startIn : Layout → Parameter → ℕ
 startIn l p = startOf (findClass l (p .class)) + p .offset
 
+abbrev pub rowBytes : Layout → List ℕ → Parameter → List ℕ
+rowBytes l image p = take (widthOf (p .kind)) (drop (startIn l p) image)
+
 -- the value that they hold: "most significant byte first"
 unfoldable pub valueIn : Layout → List ℕ → Parameter → ℤ
-valueIn l image p = fromBytes (isSigned (p .kind)) (take (widthOf (p .kind)) (drop (startIn l p) image))
+valueIn l image p = fromBytes (isSigned (p .kind)) (rowBytes l image p)
 
 -- ---- reading and setting
 
@@ -94,8 +91,11 @@ get l image p =
     let v = valueIn l image p in
     cond (eqb e 0) (parameterValue 0 v (inRange p v)) (parameterValue e (pos 0) false)
 
--- 01: "Setting changes exactly the bytes of that row"; refused, "image untouched"
+-- what an accepted setting leaves is `to`; refused, "image untouched"
+abbrev pub ifSettable : Layout → List ℕ → Parameter → ℤ → List ℕ → Outcome ℕ (List ℕ)
+ifSettable l image p v to =
+    let e = setError l (length image) p v in cond (eqb e 0) (outcome 0 to) (outcome e image)
+
+-- 01: "Setting changes exactly the bytes of that row"
 unfoldable pub set : Layout → List ℕ → Parameter → ℤ → Outcome ℕ (List ℕ)
-set l image p v =
-    let e = setError l (length image) p v in
-    cond (eqb e 0) (outcome 0 (sets image (startIn l p) (toBytes (widthOf (p .kind)) v))) (outcome e image)
+set l image p v = ifSettable l image p v (sets image (startIn l p) (toBytes (widthOf (p .kind)) v))

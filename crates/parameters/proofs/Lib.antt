@@ -1,2 +1,5 @@
-pub mod AccessLaws
+pub mod BlockLaws
+pub mod RowLaws
+pub mod SendLaws
+pub mod FetchLaws
 pub mod Laws

@@ -9,6 +9,7 @@ ghost use Rattle.checksum.specs.Checksum.{checksum};
 ghost use Rattle.flashrules.specs.Outcome.{outcome};
 ghost use Rattle.imagerules.specs.File.{parseImage, checkError};
 ghost use Rattle.parameterrules.specs.Parameter.{get, set};
+ghost use Rattle.parameterrules.specs.Commits.{setLower};
 
 // Document 01: "The checksum takes any number of bytes and sums them all".
 #[no_mangle]
@@ -47,4 +48,17 @@ pub extern "C" fn oversnithe_parameter_set(
     ensures { λ r. ⌜ outcome r (now (image .exit)) ≡ set layout (now (image .entry)) parameter value ⌝ }
 {
     parameters::set(layout, image, parameter, value)
+}
+
+// What a cut of power between the two commits of a set leaves.
+#[no_mangle]
+pub extern "C" fn oversnithe_parameter_set_lower(
+    layout: Layout,
+    image: &mut [u8],
+    parameter: Parameter,
+    value: i64,
+) -> u8
+    ensures { λ r. ⌜ outcome r (now (image .exit)) ≡ setLower layout (now (image .entry)) parameter value ⌝ }
+{
+    parameters::set_lower(layout, image, parameter, value)
 }

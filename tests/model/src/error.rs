@@ -26,7 +26,7 @@ pub enum Error {
     Invalid = 10,
     /// "parameter row not sound"
     Parameter = 11,
-    /// "parameter leaves its class or crosses a block's end"
+    /// C-17: "12 now only for a row that leaves its class"
     Place = 12,
     /// "value to be set is outside its row's range"
     Range = 13,

@@ -1,4 +1,5 @@
-//! 01, "The parameter desk": typed settings with ranges, read from an image and stored into it.
+//! 01, "The parameter desk": typed settings with ranges, read from an image and stored into it; and
+//! C-17, those that cross a block's end.
 
 use crate::error::Error;
 use crate::gauge::Gauge;
@@ -123,22 +124,97 @@ pub fn get(layout: &Layout, image: &[u8], parameter: &Parameter) -> Reading {
     }
 }
 
+/// How far a set gets before power is cut.
+#[derive(Clone, Copy, Debug, PartialEq, Eq)]
+pub enum Commits {
+    /// C-17: "between the two the new bytes of the lower block with the old of the upper". Inside a
+    /// block there is no other commit.
+    First,
+    All,
+}
+
 /// "Setting changes exactly the bytes of that row", and a refused one nothing.
 pub fn set(
     layout: &Layout,
     image: &mut [u8],
     parameter: &Parameter,
     value: i64,
+    made: Commits,
 ) -> Result<(), Error> {
-    let (kind, place) = find(layout, image.len(), parameter)?;
-    if !parameter.in_range(value) {
-        return Err(Error::Range);
+    let change = Change::of(layout, image.len(), parameter, value)?;
+    let commits = change.commits(layout, image);
+    let lower = change.block_of(change.place.start);
+    for (index, byte) in change.place.clone().zip(&change.bytes) {
+        if made == Commits::All || change.block_of(index) == lower {
+            image[index] = *byte;
+        }
     }
-    let bytes = kind.encode(value).expect("a valid row's range fits its kind");
-    let left_by_gauge = written_by_gauge(layout, image, parameter, &bytes);
-    image[place].copy_from_slice(&bytes);
-    assert!(image == left_by_gauge, "a gauge leaves another image");
+    assert!(commits.len() <= 2, "a row in three blocks");
+    let left_by_gauge = match made {
+        Commits::First => commits.first(),
+        Commits::All => commits.last(),
+    };
+    assert!(Some(&*image) == left_by_gauge.map(Vec::as_slice), "a gauge leaves another image");
     Ok(())
+}
+
+/// A row whose bytes are to become others.
+struct Change {
+    class: u8,
+    /// Where its class begins in the image.
+    class_start: usize,
+    place: Range<usize>,
+    bytes: Vec<u8>,
+}
+
+impl Change {
+    /// All five refusals, or what is to be done.
+    fn of(
+        layout: &Layout,
+        image_length: usize,
+        parameter: &Parameter,
+        value: i64,
+    ) -> Result<Change, Error> {
+        let (kind, place) = find(layout, image_length, parameter)?;
+        if !parameter.in_range(value) {
+            return Err(Error::Range);
+        }
+        Ok(Change {
+            class: parameter.class,
+            class_start: place.start - usize::from(parameter.offset),
+            place,
+            bytes: kind.encode(value).expect("a valid row's range fits its kind"),
+        })
+    }
+
+    /// The block that a byte of the image belongs to.
+    fn block_of(&self, index: usize) -> usize {
+        (index - self.class_start) / BLOCK_LENGTH
+    }
+
+    /// "the image becomes what a full access gauge leaves that loads the block, writes them and
+    /// commits"; C-17: "two commits, lower block first". The image after each commit. Every byte is
+    /// a write of its own, and none but the commit alters the image.
+    fn commits(&self, layout: &Layout, image: &[u8]) -> Vec<Vec<u8>> {
+        let mut images = vec![image.to_vec()];
+        let mut gauge = Gauge::power_on(layout.clone(), image.to_vec(), Boot::Open);
+        accepted(&mut gauge, 0x61, &[0]);
+        let mut indices = self.place.clone().peekable();
+        while let Some(&first) = indices.peek() {
+            let block = self.block_of(first);
+            let number = u8::try_from(block).expect("a class has at most 16 blocks");
+            accepted(&mut gauge, 0x3E, &[self.class, number]);
+            while let Some(index) = indices.next_if(|&index| self.block_of(index) == block) {
+                let register = 0x40 + ((index - self.class_start) % BLOCK_LENGTH) as u8;
+                accepted(&mut gauge, register, &[self.bytes[index - self.place.start]]);
+                assert!(images.last() == Some(&gauge.image), "stored before the commit");
+            }
+            let sum = checksum(&gauge.record.window);
+            accepted(&mut gauge, 0x60, &[sum]);
+            images.push(gauge.image.clone());
+        }
+        images.split_off(1)
+    }
 }
 
 /// "For the desk: 10, 11, 4, 12, 13." Here the first four, and else the kind and the range of the
@@ -151,28 +227,13 @@ fn find(
     layout.check_image(image_length)?;
     let kind = parameter.valid_kind()?;
     let class = layout.class(parameter.class)?;
-    // "parameter leaves its class or crosses a block's end"
+    // C-17: "12 now only for a row that leaves its class"
     let first = usize::from(parameter.offset);
     let last = first + kind.length() - 1;
-    if last >= class.len() || first / BLOCK_LENGTH != last / BLOCK_LENGTH {
+    if last >= class.len() {
         return Err(Error::Place);
     }
     Ok((kind, class.start + first..class.start + last + 1))
-}
-
-/// "the image becomes what a full access gauge leaves that loads the block, writes them and
-/// commits"
-fn written_by_gauge(layout: &Layout, image: &[u8], parameter: &Parameter, bytes: &[u8]) -> Vec<u8> {
-    let block = u8::try_from(usize::from(parameter.offset) / BLOCK_LENGTH)
-        .expect("a class has at most 16 blocks");
-    let register = 0x40 + (usize::from(parameter.offset) % BLOCK_LENGTH) as u8;
-    let mut gauge = Gauge::power_on(layout.clone(), image.to_vec(), Boot::Open);
-    accepted(&mut gauge, 0x61, &[0]);
-    accepted(&mut gauge, 0x3E, &[parameter.class, block]);
-    accepted(&mut gauge, register, bytes);
-    let sum = checksum(&gauge.record.window);
-    accepted(&mut gauge, 0x60, &[sum]);
-    gauge.image
 }
 
 fn accepted(gauge: &mut Gauge, register: u8, bytes: &[u8]) {
@@ -216,7 +277,7 @@ mod tests {
     /// Sets a value and answers with the image.
     fn stored(parameter: &Parameter, value: i64) -> Vec<u8> {
         let mut image = image();
-        assert_eq!(set(&layout(), &mut image, parameter, value), Ok(()));
+        assert_eq!(set(&layout(), &mut image, parameter, value, Commits::All), Ok(()));
         assert_eq!(
             get(&layout(), &image, parameter),
             Reading { error: None, value, in_range: true }
@@ -235,24 +296,115 @@ mod tests {
         let refused = Reading { error: Some(error), value: 0, in_range: false };
         assert_eq!(get(layout, image, parameter), refused, "{parameter:?}");
         let mut after = image.to_vec();
-        assert_eq!(set(layout, &mut after, parameter, value), Err(error), "{parameter:?}");
+        assert_eq!(
+            set(layout, &mut after, parameter, value, Commits::All),
+            Err(error),
+            "{parameter:?}"
+        );
         assert_eq!(after, image);
     }
 
+    /// "P11's offset 31 is accepted where the class goes on"
     #[test]
     fn p11_two_bytes_at_a_blocks_end() {
         for kind in [0x02, 0x82] {
-            assert_refused(
-                &layout(),
-                &image(),
-                &parameter(48, 31, kind, 0, 1000),
-                258,
-                Error::Place,
-            );
-            let mut expected = image();
-            expected[30..32].copy_from_slice(&[1, 2]);
-            assert_eq!(stored(&parameter(48, 30, kind, 0, 1000), 258), expected);
+            for offset in [30, 31] {
+                let mut expected = image();
+                expected[offset..offset + 2].copy_from_slice(&[1, 2]);
+                let row = parameter(48, offset as u16, kind, 0, 1000);
+                assert_eq!(stored(&row, 258), expected, "offset {offset}");
+            }
+            let at_the_end = parameter(58, 95, kind, 0, 1000);
+            assert_refused(&layout(), &image(), &at_the_end, 258, Error::Place);
         }
+    }
+
+    /// Sets a value with a cut of power after the first commit, and answers with the image.
+    fn cut(parameter: &Parameter, value: i64) -> Vec<u8> {
+        let mut image = image();
+        assert_eq!(set(&layout(), &mut image, parameter, value, Commits::First), Ok(()));
+        image
+    }
+
+    /// "A new pack has a four-byte setting at offset 30": every place of every kind, and what a cut
+    /// finds there. The class has 66 bytes, so block 1 is whole and block 2 has two.
+    #[test]
+    fn c17_rows_across_a_blocks_end() {
+        for (kind, length) in [(0x01, 1), (0x02, 2), (0x04, 4), (0x81, 1), (0x82, 2), (0x84, 4)] {
+            for offset in 26..=66 - length {
+                // 01, 01 02 or 01 02 03 04, at a place where none of these stands
+                let (bytes, value) = match length {
+                    1 => (vec![1], 0x01),
+                    2 => (vec![1, 2], 0x0102),
+                    _ => (vec![1, 2, 3, 4], 0x0102_0304),
+                };
+                let row = parameter(48, offset as u16, kind, 0, value);
+                let mut expected = image();
+                expected[offset..offset + length].copy_from_slice(&bytes);
+                assert_eq!(stored(&row, value), expected, "kind {kind:02X}, offset {offset}");
+                let end = (offset / 32 + 1) * 32;
+                let mut between = image();
+                for index in offset..(offset + length).min(end) {
+                    between[index] = expected[index];
+                }
+                assert_eq!(cut(&row, value), between, "kind {kind:02X}, offset {offset}");
+            }
+        }
+    }
+
+    /// "before the first commit the old bytes, between the two the new bytes of the lower block
+    /// with the old of the upper, afterwards all new"
+    #[test]
+    fn c17_what_a_cut_of_power_finds() {
+        let row = parameter(48, 30, 0x04, 0, 0x1E1F_2021);
+        // 30, 31, 32 and 33 stand there
+        let read = |image: &[u8]| get(&layout(), image, &row);
+        assert_eq!(read(&image()).value, 0x1E1F_2021);
+        let between = cut(&row, 0x0102_0304);
+        assert_eq!(read(&between), Reading { error: None, value: 0x0102_2021, in_range: true });
+        assert_eq!(read(&stored(&row, 0x0102_0304)).value, 0x0102_0304);
+        // neither the old value nor the new one, and out of range
+        let narrow = parameter(48, 30, 0x04, 0x1E1F_2021, 0x1E20_0000);
+        let between = cut(&narrow, 0x1E20_0000);
+        let found = get(&layout(), &between, &narrow);
+        assert_eq!(found, Reading { error: None, value: 0x1E20_2021, in_range: false });
+        // once more: as without the cut
+        let mut mended = between;
+        assert_eq!(set(&layout(), &mut mended, &narrow, 0x1E20_0000, Commits::All), Ok(()));
+        assert_eq!(mended, stored(&narrow, 0x1E20_0000));
+    }
+
+    /// A cut is refused as a set is, and leaves everything.
+    #[test]
+    fn c17_refusals_of_a_cut() {
+        let mut after = image();
+        for (row, value, error) in [
+            (parameter(48, 30, 0x03, 0, 9), 5, Error::Parameter),
+            (parameter(49, 30, 0x04, 0, 9), 5, Error::NoClass),
+            (parameter(48, 63, 0x04, 0, 9), 5, Error::Place),
+            (parameter(48, 30, 0x04, 0, 9), 10, Error::Range),
+        ] {
+            assert_eq!(
+                set(&layout(), &mut after, &row, value, Commits::First),
+                Err(error),
+                "{row:?}"
+            );
+            assert_eq!(after, image());
+        }
+        let row = parameter(48, 30, 0x04, 0, 9);
+        assert_eq!(set(&layout(), &mut after[1..], &row, 5, Commits::First), Err(Error::Invalid));
+        assert_eq!(after, image());
+    }
+
+    /// In full access the keys may be set too, and blocks A and B at once.
+    #[test]
+    fn c17_across_blocks_a_and_b() {
+        let row = parameter(58, 31, 0x02, 0, 65_535);
+        let mut expected = image();
+        expected[66 + 31..66 + 33].copy_from_slice(&[0xAB, 0xCD]);
+        assert_eq!(stored(&row, 0xABCD), expected);
+        expected[66 + 32] = image()[66 + 32];
+        assert_eq!(cut(&row, 0xABCD), expected);
     }
 
     #[test]
@@ -275,7 +427,7 @@ mod tests {
             }
             for value in [low - 1, high + 1, i64::MIN, i64::MAX] {
                 assert_eq!(
-                    set(&layout(), &mut image(), &whole, value),
+                    set(&layout(), &mut image(), &whole, value, Commits::All),
                     Err(Error::Range),
                     "kind {kind:02X}"
                 );
@@ -343,8 +495,9 @@ mod tests {
             }
         }
         assert_refused(&layout(), &image(), &parameter(255, 0, 0x84, 0, 9), 9, Error::Place);
-        // 29 to 32 lies inside the class and not inside a block
-        assert_refused(&layout(), &image(), &parameter(48, 29, 0x04, 0, 9), 9, Error::Place);
+        // the last byte is the class's last one, and one further
+        stored(&parameter(48, 62, 0x04, 0, 9), 9);
+        assert_refused(&layout(), &image(), &parameter(48, 63, 0x04, 0, 9), 9, Error::Place);
     }
 
     #[test]
@@ -361,7 +514,10 @@ mod tests {
         parameter.class = 48;
         assert_refused(&layout, &image, &parameter, 10, Error::Place);
         parameter.offset = 30;
-        assert_eq!(set(&layout, &mut image.clone(), &parameter, 10), Err(Error::Range));
+        assert_eq!(
+            set(&layout, &mut image.clone(), &parameter, 10, Commits::All),
+            Err(Error::Range)
+        );
         assert_eq!(
             get(&layout, &image, &parameter),
             Reading { error: None, value: 30 * 256 + 31, in_range: false }

@@ -72,6 +72,13 @@ extern "C" {
         parameter: Parameter,
         value: i64,
     ) -> u8;
+    fn oversnithe_parameter_set_lower(
+        layout: Layout,
+        image: *mut u8,
+        length: usize,
+        parameter: Parameter,
+        value: i64,
+    ) -> u8;
 }
 
 pub fn checksum(bytes: &Lent) -> u8 {
@@ -93,4 +100,10 @@ pub fn parameter_set(layout: Layout, image: &mut Lent, parameter: Row, value: i6
     let length = image.len();
     // SAFETY: pointer and length are those of the lent image, which nobody else has.
     unsafe { oversnithe_parameter_set(layout, image.as_mut_ptr(), length, parameter.into(), value) }
+}
+
+pub fn parameter_set_lower(layout: Layout, image: &mut Lent, parameter: Row, value: i64) -> u8 {
+    let (length, parameter) = (image.len(), parameter.into());
+    // SAFETY: pointer and length are those of the lent image, which nobody else has.
+    unsafe { oversnithe_parameter_set_lower(layout, image.as_mut_ptr(), length, parameter, value) }
 }

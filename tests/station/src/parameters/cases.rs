@@ -1,7 +1,7 @@
 //! The table of all kinds of cases, and the case of each number.
 
 use super::layouts::{self, Device};
-use super::rows::{row, size, value};
+use super::rows::{self, row, size, value};
 use crate::station::Layout;
 use generator::random::Random;
 use model::parameter::Parameter;
@@ -32,7 +32,8 @@ const fn kind(
 }
 
 pub const KINDS: &[Kind] = &[
-    kind(79, "valid", true, |r| on(r, layouts::valid)),
+    kind(71, "valid", true, |r| on(r, layouts::valid)),
+    kind(8, "across a block's end", true, across),
     kind(1, "P11", true, p11),
     kind(1, "P12", true, p12),
     kind(1, "no class", false, |r| on(r, layouts::no_class)),
@@ -93,6 +94,14 @@ fn on(random: &mut Random, make: fn(&mut Random) -> Device) -> Case {
     Case { device, parameter, value: new }
 }
 
+/// A row across a block's end, and a value in its range.
+fn across(random: &mut Random) -> Case {
+    let mut device = layouts::valid(random);
+    let (parameter, old, new) = rows::across(random, &device.layout);
+    put(&mut device, &parameter, old);
+    Case { device, parameter, value: new }
+}
+
 /// Where the row's bytes would be in the image, wherever that is.
 pub fn place(layout: &Layout, parameter: &Parameter) -> Range<usize> {
     let before = layout.entries().take_while(|entry| entry.0 != parameter.class);
@@ -108,11 +117,12 @@ fn put(device: &mut Device, parameter: &Parameter, value: i64) {
     }
 }
 
-/// "two bytes at offset 31: 12; at 30: accepted"
+/// "two bytes at offset 31: 12; at 30: accepted"; C-17: "offset 31 is accepted where the class goes
+/// on". The class has 64 bytes.
 fn p11(random: &mut Random) -> Case {
     let kind = random.pick(&[0x02, 0x82]);
-    let parameter =
-        Parameter { class: 48, offset: random.pick(&[30, 31]), kind, min: 0, max: 1_000 };
+    let offset = random.pick(&[30, 31, 62, 63]);
+    let parameter = Parameter { class: 48, offset, kind, min: 0, max: 1_000 };
     Case { device: layouts::plain(random), parameter, value: 258 }
 }
 

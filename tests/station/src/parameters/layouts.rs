@@ -51,6 +51,14 @@ pub fn plain(random: &mut Random) -> Device {
     device(random, &Flash { classes: classes.to_vec() })
 }
 
+/// Class 48 of so many bytes before the two that must be there, with any bytes.
+pub fn with_first_class_of(random: &mut Random, length: usize) -> Device {
+    let lengths = [(48, length), (INFO_CLASS, INFO_LENGTH), (KEY_CLASS, KEY_CLASS_MIN_LENGTH)];
+    let classes = lengths
+        .map(|(id, length)| Class { id, bytes: (0..length).map(|_| random.byte()).collect() });
+    device(random, &Flash { classes: classes.to_vec() })
+}
+
 /// The image as it was, or none at all.
 pub fn no_class(random: &mut Random) -> Device {
     let mut device = valid(random);

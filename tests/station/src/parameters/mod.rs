@@ -3,12 +3,14 @@
 mod cases;
 mod compare;
 mod layouts;
+mod places;
 mod rows;
 mod tally;
 
 use crate::demand_variety;
 use crate::station::Layout;
 use cases::{case, kind_of, place, Case, KINDS};
+use compare::Outcome;
 use model::parameter::Parameter;
 use tally::Tally;
 
@@ -23,17 +25,29 @@ pub fn compare(seed: u64, cases: usize) -> Result<(), String> {
             let name = kind.name;
             return Err(format!("case {number} ({name}): the generator and the model disagree"));
         }
-        match compare::compare(&case) {
-            Ok(outcome) => tally.count(kind_of(number), &case, &outcome),
-            Err(difference) => {
-                print(&case);
-                let name = kind.name;
-                return Err(format!("case {number} of seed {seed} ({name}) differs: {difference}"));
-            }
-        }
+        let name = kind.name;
+        let outcome = compare_case(&case)
+            .map_err(|what| format!("case {number} of seed {seed} ({name}) differs: {what}"))?;
+        tally.count(kind_of(number), &case, &outcome);
     }
     tally.print();
+    compare_places(seed)?;
     demand_variety(tally.shortcomings())
+}
+
+/// Rows at every place around the ends of blocks and classes.
+fn compare_places(seed: u64) -> Result<(), String> {
+    let cases = places::cases(seed);
+    for case in &cases {
+        compare_case(case).map_err(|what| format!("a place differs: {what}"))?;
+    }
+    println!("{} rows at the ends of blocks and classes compared", cases.len());
+    Ok(())
+}
+
+/// A case that differs is printed.
+fn compare_case(case: &Case) -> Result<Outcome, String> {
+    compare::compare(case).inspect_err(|_| print(case))
 }
 
 fn print(case: &Case) {

@@ -22,7 +22,7 @@ pub fn size(kind: u8) -> usize {
 }
 
 /// The lowest and the highest value of so many bytes.
-fn ends(kind: u8) -> (i64, i64) {
+pub fn ends(kind: u8) -> (i64, i64) {
     let numbers = numbers(kind);
     if kind & SIGNED == 0 {
         (0, numbers - 1)
@@ -43,6 +43,28 @@ pub fn row(random: &mut Random, layout: &Layout) -> Parameter {
     let offset = offset(random, size(kind), length.max(1));
     let (min, max) = range(random, kind);
     Parameter { class, offset, kind, min, max }
+}
+
+/// A row across a block's end, with the value that stands there and the one to be set. These are
+/// alike in the one block or in the other now and then, and often the ends of the range, so that a
+/// mixture of both is out of it. Where a class ends soon after that block, the row may leave it.
+pub fn across(random: &mut Random, layout: &Layout) -> (Parameter, i64, i64) {
+    let long = layout.entries().filter(|entry| usize::from(entry.1) > BLOCK_LENGTH);
+    let (class, length) = random.pick(&long.collect::<Vec<_>>());
+    let kind = random.pick(&[0x02, 0x04, 0x82, 0x84]);
+    let below = random.between(1, size(kind) - 1);
+    let block_end = BLOCK_LENGTH * random.between(1, (usize::from(length) - 1) / BLOCK_LENGTH);
+    let (low, high) = ends(kind);
+    let (old, new) = (between(random, low, high), between(random, low, high));
+    let upper_mask = (1 << (8 * (size(kind) - below))) - 1;
+    let new = random.weighted(&[
+        (2, new),
+        (1, (new & upper_mask) | (old & !upper_mask)),
+        (1, (old & upper_mask) | (new & !upper_mask)),
+    ]);
+    let (min, max) = random.weighted(&[(2, (old.min(new), old.max(new))), (1, (low, high))]);
+    let offset = (block_end - below) as u16;
+    (Parameter { class, offset, kind, min, max }, old, new)
 }
 
 fn kind(random: &mut Random) -> u8 {
@@ -75,12 +97,13 @@ fn class(random: &mut Random, layout: &Layout) -> (u8, usize) {
     (random.weighted(&near), length.into())
 }
 
-/// A place for `size` bytes: inside, at the ends of blocks and of the class, past them, and far
-/// away.
+/// A place for `size` bytes: inside, at and across the ends of blocks and of the class, past them,
+/// and far away.
 fn offset(random: &mut Random, size: usize, length: usize) -> u16 {
     let any = random.below(length);
     let inside = any / BLOCK_LENGTH * BLOCK_LENGTH + random.below(BLOCK_LENGTH + 1 - size);
     let block_end = (any / BLOCK_LENGTH + 1) * BLOCK_LENGTH;
+    let across = block_end - random.between(1, size);
     let far = random.below(1 << 16);
     let place = random.weighted(&[
         (40, inside),
@@ -91,8 +114,7 @@ fn offset(random: &mut Random, size: usize, length: usize) -> u16 {
         (2, length),
         (1, length + 1),
         (12, block_end - size),
-        (4, block_end - size + 1),
-        (3, block_end - 1),
+        (16, across),
         (2, block_end),
         (2, any),
         // alike in their low bits, or with a block number that is
@@ -166,7 +188,7 @@ pub fn value(random: &mut Random, row: &Parameter) -> i64 {
 }
 
 /// A number from `low` to `high`, both included.
-fn between(random: &mut Random, low: i64, high: i64) -> i64 {
+pub fn between(random: &mut Random, low: i64, high: i64) -> i64 {
     let span = high.wrapping_sub(low) as u64;
     let step = if span == u64::MAX { random.number() } else { random.number() % (span + 1) };
     low.wrapping_add(step as i64)

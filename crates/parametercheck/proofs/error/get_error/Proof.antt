@@ -1,5 +1,5 @@
 use borrow.Author.Needs.{needs}
-use Rattle.parametercheck.proofs.ErrorLaws.{not-fitting, not-valid, not-found, is-found}
+use Rattle.parametercheck.proofs.ErrorLaws.{not-fitting, not-valid, not-found, misplaced, placed}
 use Rattle.parametercheck.proofs.error.get_error.Statement.{statement}
 use Rattle.parametercheck.proofs.error.get_error.Tie as tie
 
@@ -14,6 +14,7 @@ get-error-spec =
     (λ c. search needs)
     (λ c. search (needs, not-found))
     (λ c κs. search needs)
-    (λ c. search (needs, is-found))
+    (λ c. search (needs, misplaced))
+    (λ c. search (needs, placed))
     (λ c. search (needs, not-valid))
     (λ c. search (needs, not-fitting)))

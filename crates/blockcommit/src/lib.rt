@@ -1,4 +1,6 @@
 // A commit: what a byte at 0x60 does. A refused byte leaves gauge and image as they were.
+#![tactic(auto)]
+
 ghost use Rattle.std.specs.Prelude.{◌≡◌, take};
 ghost use Rattle.checksum.specs.Checksum.{checksum};
 ghost use Rattle.flashrules.specs.Outcome.{outcome};

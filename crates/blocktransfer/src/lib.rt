@@ -1,5 +1,7 @@
 // Block transfer: what a byte at 0x3E, 0x3F, 0x40 to 0x5F and 0x61 does. A refused byte hands the
 // gauge back as it was. Crate `blockcommit` has 0x60.
+#![tactic(auto)]
+
 ghost use Rattle.std.specs.Prelude.{◌≡◌, ◌≤◌, length, set};
 ghost use Rattle.flashrules.specs.Lookup.{block_size};
 ghost use Rattle.flashrules.specs.Image.{as_loaded};

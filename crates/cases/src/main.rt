@@ -1,6 +1,8 @@
 // The bench cases of document 01 and those of change requests, run: for each the answers of the
 // compiled code, and whether they are those of the table. What is handed to the code is required to
 // be a case of the table in crate `casetable`, which is proved of the rules.
+#![tactic(auto)]
+
 mod bench;
 mod parameter;
 mod session;

@@ -7,7 +7,7 @@ pub const MAX_LINES: u32 = 0xFFFFFFFF;
 // The number of the line that is run, from 1 on, and for each reason the line of the latest byte
 // that gave it, 0 where none did.
 #[repr(C)]
-#[derive(Drop)]
+#[derive(Clone, Copy)]
 pub struct Notes {
     pub line: u32,
     pub sealed: u32,
@@ -18,7 +18,7 @@ pub struct Notes {
 }
 
 // After a write whose bytes were noted: its error, the gauge, and what is noted now.
-#[derive(Drop)]
+#[derive(Clone, Copy)]
 pub struct Tracked {
     pub error: u8,
     pub gauge: Gauge,

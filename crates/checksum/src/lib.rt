@@ -1,5 +1,7 @@
 // The checksum of a block (document 01, "Checksum"): 255 less the low eight bits of the sum of its
 // bytes, and the same after one byte has changed. The sum wraps at 256 by intent.
+#![tactic(auto)]
+
 ghost use Rattle.std.specs.Prelude.{◌≡◌, ◌%◌};
 ghost use Rattle.checksum.specs.Checksum.{total, checksum, checksum_after};
 

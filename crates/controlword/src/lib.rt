@@ -1,5 +1,7 @@
 // Control words: a byte at 0x01 makes one, and it is obeyed. The keys are read from the image at
 // that moment.
+#![tactic(auto)]
+
 ghost use Rattle.std.specs.Prelude.{◌≡◌, cond, ◌+◌, ◌≤◌, ◌<◌, eqb, length, take, drop, get_or};
 ghost use Rattle.flashrules.specs.Choice.{differing};
 ghost use Rattle.gaugerules.specs.Keys.{full_access_key, key_length, as_sent, is_key};

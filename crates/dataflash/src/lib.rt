@@ -1,6 +1,8 @@
 // The blocks of an image, by the lookup: handed out as parts of the lent slice itself, compared
 // with a window, and stored into. A store touches the block's own bytes and no other, however short
 // the block; a refused call touches none.
+#![tactic(auto)]
+
 pub mod count;
 
 ghost use Rattle.std.specs.Prelude.{◌≡◌, ◌+◌, ◌≤◌, length};

@@ -1,5 +1,7 @@
 // What differs between two images of one layout: the text of the list of runs, into a lent buffer.
 // Refusals come in the order 10, 18, 14; a refused call leaves the buffer untouched.
+#![tactic(auto)]
+
 mod span;
 mod text;
 

@@ -19,7 +19,7 @@ pub const MIN_KEY_LENGTH: usize = 28;
 // Identifiers and lengths of the classes, in the order of their bytes. Only the first `count`
 // entries mean anything.
 #[repr(C)]
-#[derive(Drop)]
+#[derive(Clone, Copy)]
 pub struct Layout {
     pub count: usize,
     pub ids: [u8; MAX_CLASSES],

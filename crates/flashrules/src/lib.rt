@@ -2,6 +2,8 @@
 // an image. Here are the types; the rules over them are definitions (specs/), with what is proved
 // of the rules alone (proofs/). Crates `layout` and `dataflash` are the code. Document 01, "Layout
 // and image".
+#![tactic(auto)]
+
 pub mod error;
 pub mod layout;
 pub mod lookup;

@@ -4,7 +4,7 @@
 pub const BLOCK_SIZE: usize = 32;
 
 // What a lookup answers: a place in the image, or document 01's error number.
-#[derive(Drop)]
+#[derive(Clone, Copy)]
 pub enum Lookup {
     Found { start: usize, len: usize },
     Refused(u8),

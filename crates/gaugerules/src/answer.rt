@@ -2,7 +2,7 @@
 use crate::state::Gauge;
 
 // After one byte of a write: how many bytes of the image it changed, and the gauge.
-#[derive(Drop)]
+#[derive(Clone, Copy)]
 pub struct ByteWritten {
     pub error: u8,
     pub changed: usize,
@@ -12,7 +12,7 @@ pub struct ByteWritten {
 // After a write: how many bytes were accepted (document 01: taken), how many of the image they
 // changed, and the gauge.
 #[repr(C)]
-#[derive(Drop)]
+#[derive(Clone, Copy)]
 pub struct Written {
     pub error: u8,
     pub accepted: usize,
@@ -22,7 +22,7 @@ pub struct Written {
 
 // After a read.
 #[repr(C)]
-#[derive(Drop)]
+#[derive(Clone, Copy)]
 pub struct Reading {
     pub error: u8,
     pub accepted: usize,
@@ -30,7 +30,7 @@ pub struct Reading {
 
 // After the supply was set.
 #[repr(C)]
-#[derive(Drop)]
+#[derive(Clone, Copy)]
 pub struct Supplied {
     pub error: u8,
     pub gauge: Gauge,

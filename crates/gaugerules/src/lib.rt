@@ -2,6 +2,8 @@
 // definitions (specs/), and what is proved of the rules alone, noninterference above all, stands
 // here too (proofs/). The code that equals these rules is in crates `gaugestate`, `controlword`,
 // `blocktransfer`, `blockcommit` and `gauge`.
+#![tactic(auto)]
+
 pub mod answer;
 pub mod keys;
 pub mod register;

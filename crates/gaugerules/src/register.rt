@@ -18,7 +18,7 @@ pub const BLOCK_DATA_CONTROL: usize = 0x61;
 pub const REGISTERS: usize = 128;
 
 // What a register is.
-#[derive(Drop)]
+#[derive(Clone, Copy)]
 pub enum Register {
     ControlLow,
     ControlHigh,

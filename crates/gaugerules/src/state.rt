@@ -38,14 +38,14 @@ pub const MAX_SUPPLY: u16 = 4500;
 pub const MIN_COMMIT_SUPPLY: u16 = 2700;
 
 // What is in the window, as the rules go by it: a view of the number that a gauge holds.
-#[derive(Drop)]
+#[derive(Clone, Copy)]
 pub enum Loaded {
     None,
     Block { class: u8, block: u8 },
 }
 
 #[repr(C)]
-#[derive(Drop)]
+#[derive(Clone, Copy)]
 pub struct Gauge {
     pub mode: u8,
     pub boot: u8,

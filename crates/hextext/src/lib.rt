@@ -2,6 +2,8 @@
 // index on, and every contract says what it then holds by the library's `sets buffer at xs`: the
 // buffer with xs stored from `at` on, the rest as it was. What would lie past the buffer's end is
 // not stored, so every function here answers every argument.
+#![tactic(auto)]
+
 ghost use Rattle.std.specs.Prelude.{◌≡◌, [], ◌∷◌, ◌+◌, ◌*◌, ◌<◌};
 ghost use Rattle.std.proofs.lemmas.List.Edits.{sets};
 ghost use Rattle.hextext.specs.Hex.{digit, value, pair, hex, unhex, hex_line};

@@ -4,6 +4,8 @@
 // standard error.
 //
 // What is printed is proved of crate `delta`, whose call does all the work; here it is fed.
+#![tactic(auto)]
+
 ghost use Rattle.std.specs.Prelude.{◌≡◌, true, ◌≤◌, length};
 ghost use Rattle.flashrules.specs.Error.{malformed, layout_mismatch};
 ghost use Rattle.flashrules.specs.Layout.{fits};

@@ -16,14 +16,14 @@ use imagerules::text::MAX_LINES;
 use std::num::wrapping_add_u16;
 
 // A line: how many data bytes it has, 0 where there is no line, and where the next one begins.
-#[derive(Drop)]
+#[derive(Clone, Copy)]
 pub(crate) struct Line {
     pub width: usize,
     pub next: usize,
 }
 
 // A candidate: the layout, and how many bytes its image has.
-#[derive(Drop)]
+#[derive(Clone, Copy)]
 pub(crate) struct Found {
     pub layout: Layout,
     pub length: usize,

@@ -6,6 +6,8 @@
 // construction; order, gaps, checksums, case and line ends are judged by the one function that
 // writes them. No more than 160 lines are looked at, so a text costs its length once, to find line
 // feeds in it.
+#![tactic(auto)]
+
 mod candidate;
 
 ghost use Rattle.std.specs.Prelude.{◌≡◌, ◌*◌, ◌≤◌, length, take};
@@ -24,7 +26,7 @@ use imagerules::text::{MAX_LINES, MAX_TEXT};
 use imagewriter::write;
 
 // Whether a candidate holds of its text, and the candidate.
-#[derive(Drop)]
+#[derive(Clone, Copy)]
 pub(crate) struct Parsed {
     pub good: bool,
     pub layout: Layout,

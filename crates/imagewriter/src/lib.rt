@@ -1,5 +1,7 @@
 // An image file is written: the text of a layout and its image, into a lent buffer. Refusals come
 // in the order 10, 14; a refused call leaves the buffer untouched.
+#![tactic(auto)]
+
 mod text;
 
 ghost use Rattle.std.specs.Prelude.{◌≡◌};

@@ -1,7 +1,7 @@
 // A parameter (document 01: a parameter row). Numbers only, so that a host program can hold it and
 // any row whatever can be passed; whether one is valid is a test.
 #[repr(C)]
-#[derive(Drop)]
+#[derive(Clone, Copy)]
 pub struct Parameter {
     pub class: u8,
     // Of the value's first byte, in its class.
@@ -15,7 +15,7 @@ pub struct Parameter {
 // What reading a parameter answers: document 01's error number, 0 where there is none. Refused, the
 // value is 0 and not in range.
 #[repr(C)]
-#[derive(Drop)]
+#[derive(Clone, Copy)]
 pub struct ParameterValue {
     pub error: u8,
     pub value: i64,

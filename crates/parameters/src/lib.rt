@@ -1,6 +1,8 @@
 // Typed parameters over the gauge: a value is read and set as a programmer does it with a pack,
 // through the gauge's public calls. Every function answers every argument; a contract is an
 // equation with a definition of crate `parameterrules`, where the rules are to be read.
+#![tactic(auto)]
+
 mod block;
 mod row;
 

@@ -8,7 +8,7 @@ use scriptparser::{feed, start};
 use scriptrules::parser::Parser;
 
 // So many good lines went before, and whether there is more to be read.
-#[derive(Drop)]
+#[derive(Clone, Copy)]
 struct Counted {
     state: Parser,
     lines: u64,

@@ -3,6 +3,8 @@
 // read twice, each time in chunks: any length of it takes the same memory. What is printed is
 // proved of crate `scriptrunner`, whose calls do all the work; here they are fed. Crate `hostio`
 // reads and prints.
+#![tactic(auto)]
+
 mod diagnose;
 pub mod files;
 mod pass;

@@ -23,7 +23,7 @@ use std::num::wrapping_add_u64;
 
 // The session, and which bytes of the buffer are text that has come and was not run; and how many
 // were read in this turn.
-#[derive(Drop)]
+#[derive(Clone, Copy)]
 struct Held {
     session: Session,
     from: usize,
@@ -55,7 +55,7 @@ fn read_behind(fd: i32, buffer: &mut [u8], kept: usize) -> Got
     read_some(fd, b"script.hex", &mut buffer[kept..])
 }
 
-#[derive(Drop)]
+#[derive(Clone, Copy)]
 struct Refilled {
     to: usize,
     read: usize,
@@ -136,7 +136,7 @@ fn turn(
 }
 
 // How long the text is that is held at the end, and how many characters were read, modulo 2^64.
-#[derive(Drop)]
+#[derive(Clone, Copy)]
 struct Ended {
     held: usize,
     read: u64,

@@ -11,7 +11,7 @@ use std::num::wrapping_add_u64;
 
 // What the first pass found: whether it is a script and can be read once more from its start, the
 // parser's state at its end, and how many characters and lines it has.
-#[derive(Drop)]
+#[derive(Clone, Copy)]
 pub(crate) struct Parsed {
     pub good: bool,
     pub state: Parser,
@@ -29,7 +29,7 @@ pub(crate) fn open() -> i32 {
 }
 
 // After another chunk; so many characters were fed in all, and so many lines.
-#[derive(Drop)]
+#[derive(Clone, Copy)]
 struct Turn {
     state: Parser,
     count: u64,

@@ -1,5 +1,7 @@
 // Whether a text is a script. The state goes in and comes back by value, so a script of any length
 // is parsed in chunks: `start`, `feed` for each chunk, `end`. Its lines can be counted on the way.
+#![tactic(auto)]
+
 pub mod lines;
 
 ghost use Rattle.std.specs.Prelude.{◌≡◌};

@@ -8,7 +8,7 @@ pub const MAX_REPLY: usize = 2 * (1 + REGISTERS) + 1;
 // After one line: the session, and how long is what it put out, with its line feed; 0 where the
 // line is refused.
 #[repr(C)]
-#[derive(Drop)]
+#[derive(Clone, Copy)]
 pub struct Answered {
     pub error: u8,
     pub session: Session,
@@ -18,7 +18,7 @@ pub struct Answered {
 // After the lines of a text: the session, where the first line begins that was not run, and how
 // many bytes of the buffer are output.
 #[repr(C)]
-#[derive(Drop)]
+#[derive(Clone, Copy)]
 pub struct Progress {
     pub error: u8,
     pub session: Session,

@@ -12,7 +12,7 @@ pub const MAX_FRAME: usize = 257;
 // Whether no rule is broken yet; and of the line that is not ended yet, how many digits it has, and
 // the byte that its first two make.
 #[repr(C)]
-#[derive(Drop)]
+#[derive(Clone, Copy)]
 pub struct Parser {
     pub good: bool,
     pub count: usize,

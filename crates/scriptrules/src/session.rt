@@ -9,7 +9,7 @@ pub const REPORT_CAUSES: u8 = 1;
 
 // What is carried from line to line of a script, by value. Replies leave the notes alone.
 #[repr(C)]
-#[derive(Drop)]
+#[derive(Clone, Copy)]
 pub struct Session {
     pub gauge: Gauge,
     pub notes: Notes,

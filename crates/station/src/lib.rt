@@ -1,6 +1,8 @@
 // The functions exported to C: thin covers over the libraries' own, with their contracts. Nothing
 // is kept between calls, and nothing requires anything of its arguments. In C a slice is a pointer
 // and a length, and a null pointer with length 0 is the empty one.
+#![tactic(auto)]
+
 ghost use Rattle.std.specs.Prelude.{◌≡◌};
 ghost use Rattle.checksum.specs.Checksum.{checksum};
 ghost use Rattle.flashrules.specs.Outcome.{outcome};

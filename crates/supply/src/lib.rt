@@ -1,5 +1,7 @@
 // The supply of a gauge is set. Every argument is answered; the contract is an equation with a
 // definition of crate `gaugerules`. Document 02, C-16.
+#![tactic(auto)]
+
 ghost use Rattle.std.specs.Prelude.{◌≡◌};
 ghost use Rattle.gaugerules.specs.Supply.{set_supply};
 

@@ -4,6 +4,8 @@
 // have matched. A file that breaks its rules, is missing or cannot be read gives the single line
 // 0A, and the reason goes to standard error; so does a script of more lines than four bytes can
 // count.
+#![tactic(auto)]
+
 use scripthost::files::run_files;
 use scriptrules::session::REPORT_CAUSES;
 

@@ -6,18 +6,18 @@ use Rattle.checksum.proofs.ChecksumLaws.{sum_more, sum_all}
 use Rattle.checksum.proofs.low_sum.Statement.{statement}
 use Rattle.checksum.proofs.low_sum.Tie as tie
 
-abbrev invariant-loop : tie.invariant-loop
-invariant-loop bytes sum₀ i₀ sum i = ((sum + total (drop i bytes)) % 256 ≡ total bytes % 256) × (sum < 256) × (i ≤ length bytes)
+abbrev invariant-loop-i : tie.invariant-loop-i
+invariant-loop-i bytes sum₀ i₀ sum i = ((sum + total (drop i bytes)) % 256 ≡ total bytes % 256) × (sum < 256) × (i ≤ length bytes)
 
-abbrev decreases-loop : tie.decreases-loop
-decreases-loop bytes sum₀ i₀ sum i = length bytes - i
+abbrev decreases-loop-i : tie.decreases-loop-i
+decreases-loop-i bytes sum₀ i₀ sum i = length bytes - i
 
 pub low_sum_spec : {M : Type 1} → statement M
 low_sum_spec =
     tie.close
     (tie.spec
-    invariant-loop
-    decreases-loop
+    invariant-loop-i
+    decreases-loop-i
     (λ c. search rules)
     (λ c. search rules)
     (λ c κs. search rules)

@@ -11,18 +11,18 @@ use Rattle.hextext.proofs.HexLaws.{decode_more, decode_end}
 use Rattle.hextext.proofs.decode.Statement.{statement}
 use Rattle.hextext.proofs.decode.Tie as tie
 
-abbrev invariant-loop : tie.invariant-loop
-invariant-loop text buffer₀ at i₀ out₀ buffer i out = (sets buffer out (unhex (drop i text)) ≡ sets buffer₀ at (unhex text)) × (length buffer ≡ length buffer₀) × (i ≤ length text)
+abbrev invariant-loop-i : tie.invariant-loop-i
+invariant-loop-i text buffer₀ at i₀ out₀ buffer i out = (sets buffer out (unhex (drop i text)) ≡ sets buffer₀ at (unhex text)) × (length buffer ≡ length buffer₀) × (i ≤ length text)
 
-abbrev decreases-loop : tie.decreases-loop
-decreases-loop text buffer₀ at i₀ out₀ buffer i out = length text - i
+abbrev decreases-loop-i : tie.decreases-loop-i
+decreases-loop-i text buffer₀ at i₀ out₀ buffer i out = length text - i
 
 pub decode_spec : {M : Type 1} → statement M
 decode_spec =
     tie.close
     (tie.spec
-    invariant-loop
-    decreases-loop
+    invariant-loop-i
+    decreases-loop-i
     (λ c. search rules)
     (λ c. search rules)
     (λ c. search rules)

@@ -11,18 +11,18 @@ use Rattle.hextext.proofs.HexLaws.{encode_more, encode_end}
 use Rattle.hextext.proofs.encode.Statement.{statement}
 use Rattle.hextext.proofs.encode.Tie as tie
 
-abbrev invariant-loop : tie.invariant-loop
-invariant-loop bytes buffer₀ at i₀ out₀ buffer i out = (sets buffer out (hex (drop i bytes)) ≡ sets buffer₀ at (hex bytes)) × (length buffer ≡ length buffer₀)
+abbrev invariant-loop-i : tie.invariant-loop-i
+invariant-loop-i bytes buffer₀ at i₀ out₀ buffer i out = (sets buffer out (hex (drop i bytes)) ≡ sets buffer₀ at (hex bytes)) × (length buffer ≡ length buffer₀)
 
-abbrev decreases-loop : tie.decreases-loop
-decreases-loop bytes buffer₀ at i₀ out₀ buffer i out = length bytes - i
+abbrev decreases-loop-i : tie.decreases-loop-i
+decreases-loop-i bytes buffer₀ at i₀ out₀ buffer i out = length bytes - i
 
 pub encode_spec : {M : Type 1} → statement M
 encode_spec =
     tie.close
     (tie.spec
-    invariant-loop
-    decreases-loop
+    invariant-loop-i
+    decreases-loop-i
     (λ c. search rules)
     (λ c. search rules)
     (λ c. search sets_full)

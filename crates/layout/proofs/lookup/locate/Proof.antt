@@ -9,18 +9,18 @@ use Rattle.flashrules.proofs.LayoutLaws.{Whole, locate_end, locate_here, locate_
 use Rattle.layout.proofs.lookup.locate.Statement.{statement}
 use Rattle.layout.proofs.lookup.locate.Tie as tie
 
-abbrev invariant-loop : tie.invariant-loop
-invariant-loop class layout start₀ k₀ start k = Whole layout × (locate start (drop k (classes layout)) class ≡ locate 0 (classes layout) class) × (start ≤ 65535 * k) × (k ≤ layout.count)
+abbrev invariant-loop-k : tie.invariant-loop-k
+invariant-loop-k class layout start₀ k₀ start k = Whole layout × (locate start (drop k (classes layout)) class ≡ locate 0 (classes layout) class) × (start ≤ 65535 * k) × (k ≤ layout.count)
 
-abbrev decreases-loop : tie.decreases-loop
-decreases-loop class layout start₀ k₀ start k = layout.count - k
+abbrev decreases-loop-k : tie.decreases-loop-k
+decreases-loop-k class layout start₀ k₀ start k = layout.count - k
 
 pub locate_spec : {M : Type 1} → statement M
 locate_spec =
     tie.close
     (tie.spec
-    invariant-loop
-    decreases-loop
+    invariant-loop-k
+    decreases-loop-k
     (λ c. search rules)
     (λ c. search rules)
     (λ c. search rules)

@@ -9,20 +9,20 @@ use Rattle.flashrules.proofs.LayoutLaws.{WholeArrays, same_counts, same_start, s
 use Rattle.layout.proofs.same.same.Statement.{statement}
 use Rattle.layout.proofs.same.same.Tie as tie
 
-abbrev invariant-loop : tie.invariant-loop
-invariant-loop layout other n k₀ k =
+abbrev invariant-loop-k : tie.invariant-loop-k
+invariant-loop-k layout other n k₀ k =
     WholeArrays layout × WholeArrays other × (layout.count ≡ other.count) × (n ≡ min layout.count max_classes)
     × (same_classes (drop k (classes layout)) (drop k (classes other)) ≡ same_layout layout other) × (k ≤ n)
 
-abbrev decreases-loop : tie.decreases-loop
-decreases-loop layout other n k₀ k = n - k
+abbrev decreases-loop-k : tie.decreases-loop-k
+decreases-loop-k layout other n k₀ k = n - k
 
 pub same_spec : {M : Type 1} → statement M
 same_spec =
     tie.close
     (tie.spec
-    invariant-loop
-    decreases-loop
+    invariant-loop-k
+    decreases-loop-k
     (λ c. search same_counts)
     (λ c κs. search rules)
     (λ c. search (rules, same_start))

@@ -9,18 +9,18 @@ use Rattle.flashrules.proofs.LayoutLaws.{Whole, ordered_end, ordered_on, ordered
 use Rattle.layout.proofs.valid.ordered.Statement.{statement}
 use Rattle.layout.proofs.valid.ordered.Tie as tie
 
-abbrev invariant-loop : tie.invariant-loop
-invariant-loop layout lo₀ k₀ lo k = Whole layout × (ordered lo (drop k (classes layout)) ≡ ordered 0 (classes layout)) × (k ≤ layout.count)
+abbrev invariant-loop-k : tie.invariant-loop-k
+invariant-loop-k layout lo₀ k₀ lo k = Whole layout × (ordered lo (drop k (classes layout)) ≡ ordered 0 (classes layout)) × (k ≤ layout.count)
 
-abbrev decreases-loop : tie.decreases-loop
-decreases-loop layout lo₀ k₀ lo k = layout.count - k
+abbrev decreases-loop-k : tie.decreases-loop-k
+decreases-loop-k layout lo₀ k₀ lo k = layout.count - k
 
 pub ordered_spec : {M : Type 1} → statement M
 ordered_spec =
     tie.close
     (tie.spec
-    invariant-loop
-    decreases-loop
+    invariant-loop-k
+    decreases-loop-k
     (λ c. search rules)
     (λ c. search rules)
     (λ c κs. search rules)

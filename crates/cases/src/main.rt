@@ -16,18 +16,19 @@ use gaugerules::state::{BOOT_OPEN, BOOT_SEALED};
 use parameterrules::kind::{I8, I32, U16, U32};
 
 // Cases that are one call.
-fn values() {
-    sum(0, b"P1", &[0x00; 32], 255);
-    sum(1, b"P2", &[0xFF; 32], 31);
-    change(2, b"P3", 31, 0xFF, 0x00, 30);
-    change(3, b"P4", 0xFE, 0x01, 0x02, 0xFD);
-    lookup(5, b"P6", 48, 1, 0, 1);
-    lookup(6, b"P6", 48, 2, 5, 0);
+fn values<R: Print>(rt: &R) {
+    sum(rt, 0, b"P1", &[0x00; 32], 255);
+    sum(rt, 1, b"P2", &[0xFF; 32], 31);
+    change(rt, 2, b"P3", 31, 0xFF, 0x00, 30);
+    change(rt, 3, b"P4", 0xFE, 0x01, 0x02, 0xFD);
+    lookup(rt, 5, b"P6", 48, 1, 0, 1);
+    lookup(rt, 6, b"P6", 48, 2, 5, 0);
 }
 
 // Cases that are a script.
-fn sessions() {
+fn sessions<R: Print>(rt: &R) {
     session(
+        rt,
         4,
         b"P5",
         0,
@@ -38,6 +39,7 @@ fn sessions() {
         0,
     );
     session(
+        rt,
         7,
         b"P7",
         0,
@@ -48,6 +50,7 @@ fn sessions() {
         5,
     );
     session(
+        rt,
         8,
         b"P8",
         0,
@@ -58,6 +61,7 @@ fn sessions() {
         0,
     );
     session(
+        rt,
         9,
         b"P8",
         0,
@@ -68,6 +72,7 @@ fn sessions() {
         0,
     );
     session(
+        rt,
         10,
         b"P9",
         0,
@@ -78,6 +83,7 @@ fn sessions() {
         0,
     );
     session(
+        rt,
         11,
         b"P10",
         0x55,
@@ -90,8 +96,9 @@ fn sessions() {
 }
 
 // Cases that set or read a parameter.
-fn parameters() {
+fn parameters<R: Print>(rt: &R) {
     set_parameter(
+        rt,
         12,
         b"P11",
         false,
@@ -105,8 +112,11 @@ fn parameters() {
         31,
         &[0x12, 0x34],
     );
-    set_parameter(13, b"P11", false, 58, 95, U16, 0, 65535, 0x1234, 12, 0, b"");
     set_parameter(
+        rt, 13, b"P11", false, 58, 95, U16, 0, 65535, 0x1234, 12, 0, b"",
+    );
+    set_parameter(
+        rt,
         14,
         b"P11",
         false,
@@ -120,13 +130,28 @@ fn parameters() {
         30,
         &[0x12, 0x34],
     );
-    set_parameter(15, b"P12", false, 48, 0, I8, -128, 127, -128, 0, 0, &[0x80]);
-    get_parameter(16, b"P12", 0x80, 48, 0, I8, -128, 127, -128);
+    set_parameter(
+        rt,
+        15,
+        b"P12",
+        false,
+        48,
+        0,
+        I8,
+        -128,
+        127,
+        -128,
+        0,
+        0,
+        &[0x80],
+    );
+    get_parameter(rt, 16, b"P12", 0x80, 48, 0, I8, -128, 127, -128);
 }
 
 // Cases of change requests.
-fn requests() {
+fn requests<R: Print>(rt: &R) {
     session(
+        rt,
         17,
         b"C-12",
         0,
@@ -137,6 +162,7 @@ fn requests() {
         7,
     );
     session(
+        rt,
         18,
         b"C-14",
         0,
@@ -147,6 +173,7 @@ fn requests() {
         1,
     );
     session(
+        rt,
         19,
         b"C-14",
         0,
@@ -157,6 +184,7 @@ fn requests() {
         0x15,
     );
     session(
+        rt,
         20,
         b"C-16",
         0,
@@ -169,10 +197,11 @@ fn requests() {
 }
 
 // Parameters that cross a block's end, the second with a cut of power.
-fn across_blocks() {
+fn across_blocks<R: Print>(rt: &R) {
     let max = 0xFFFFFFFF;
     let value = 0x12345678;
     set_parameter(
+        rt,
         21,
         b"C-17",
         false,
@@ -187,6 +216,7 @@ fn across_blocks() {
         &[0x12, 0x34, 0x56, 0x78],
     );
     set_parameter(
+        rt,
         22,
         b"C-17",
         true,
@@ -201,6 +231,7 @@ fn across_blocks() {
         &[0x12, 0x34],
     );
     set_parameter(
+        rt,
         23,
         b"C-17",
         false,
@@ -214,13 +245,13 @@ fn across_blocks() {
         29,
         &[0xFF, 0xFF, 0xFF, 0xFE],
     );
-    set_parameter(24, b"C-17", false, 48, 30, I32, -2, 0, -2, 12, 0, b"");
+    set_parameter(rt, 24, b"C-17", false, 48, 30, I32, -2, 0, -2, 12, 0, b"");
 }
 
-fn main() {
-    values();
-    sessions();
-    parameters();
-    requests();
-    across_blocks();
+fn main(rt: HostRuntime) {
+    values(&rt);
+    sessions(&rt);
+    parameters(&rt);
+    requests(&rt);
+    across_blocks(&rt);
 }

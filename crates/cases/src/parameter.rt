@@ -42,19 +42,28 @@ fn set_until(cut: bool, image: &mut [u8], parameter: Parameter, value: i64) -> u
 }
 
 // Whether that answers this error and leaves such an image.
-fn sets_so(cut: bool, parameter: Parameter, value: i64, error: u8, at: usize, bytes: &[u8]) -> bool
+fn sets_so<R: Print>(
+    rt: &R,
+    cut: bool,
+    parameter: Parameter,
+    value: i64,
+    error: u8,
+    at: usize,
+    bytes: &[u8],
+) -> bool
     requires { at + length bytes.now ≤ bench_size }
 {
     let mut image = bench_image(0);
     let answer = set_until(cut, &mut image, parameter, value);
-    show_number(answer as u64);
+    show_number(rt, answer as u64);
     if answer == error {
         return changed_so(&image, at, bytes);
     }
     false
 }
 
-pub(crate) fn set_parameter(
+pub(crate) fn set_parameter<R: Print>(
+    rt: &R,
     k: usize,
     name: &[u8],
     cut: bool,
@@ -70,17 +79,17 @@ pub(crate) fn set_parameter(
 )
     requires { (case_at k ≡ set_parameter cut (bench_parameter class offset kind min max) value error at bytes.now) × (at + length bytes.now ≤ bench_size) }
 {
-    show_text(name);
-    show_text(b" set, error ");
+    show_text(rt, name);
+    show_text(rt, b" set, error ");
     let parameter = bench_parameter(class, offset, kind, min, max);
-    show_verdict(sets_so(cut, parameter, value, error, at, bytes));
+    show_verdict(rt, sets_so(rt, cut, parameter, value, error, at, bytes));
 }
 
 // Whether this value is read, and in range.
-fn reads_so(first: u8, parameter: Parameter, value: i64) -> bool {
+fn reads_so<R: Print>(rt: &R, first: u8, parameter: Parameter, value: i64) -> bool {
     let image = bench_image(first);
     let answer = get(bench_layout(), &image, parameter);
-    show_number(answer.error as u64);
+    show_number(rt, answer.error as u64);
     if answer.error == 0 {
         if answer.in_range {
             return answer.value == value;
@@ -89,7 +98,8 @@ fn reads_so(first: u8, parameter: Parameter, value: i64) -> bool {
     false
 }
 
-pub(crate) fn get_parameter(
+pub(crate) fn get_parameter<R: Print>(
+    rt: &R,
     k: usize,
     name: &[u8],
     first: u8,
@@ -102,8 +112,8 @@ pub(crate) fn get_parameter(
 )
     requires { case_at k ≡ get_parameter first (bench_parameter class offset kind min max) value }
 {
-    show_text(name);
-    show_text(b" get, error ");
+    show_text(rt, name);
+    show_text(rt, b" get, error ");
     let parameter = bench_parameter(class, offset, kind, min, max);
-    show_verdict(reads_so(first, parameter, value));
+    show_verdict(rt, reads_so(rt, first, parameter, value));
 }

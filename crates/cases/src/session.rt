@@ -30,7 +30,15 @@ fn replay(boot: u8, script: &[u8], image: &mut [u8], buffer: &mut [u8]) -> usize
 
 // Runs a script and prints its output; whether it is this, and the image after it has this byte at
 // this index and is else as it was.
-fn runs_so(first: u8, boot: u8, script: &[u8], output: &[u8], at: usize, byte: u8) -> bool
+fn runs_so<R: Print>(
+    rt: &R,
+    first: u8,
+    boot: u8,
+    script: &[u8],
+    output: &[u8],
+    at: usize,
+    byte: u8,
+) -> bool
     requires { at < bench_size }
 {
     let mut image = bench_image(first);
@@ -38,14 +46,15 @@ fn runs_so(first: u8, boot: u8, script: &[u8], output: &[u8], at: usize, byte: u
     after[at] = byte;
     let mut buffer = [0u8; ROOM];
     let n = replay(boot, script, &mut image, &mut buffer);
-    show_text(&buffer[0..n]);
+    show_text(rt, &buffer[0..n]);
     if check::same(&buffer[0..n], output) {
         return check::same(&image, &after);
     }
     false
 }
 
-pub(crate) fn session(
+pub(crate) fn session<R: Print>(
+    rt: &R,
     k: usize,
     name: &[u8],
     first: u8,
@@ -57,9 +66,9 @@ pub(crate) fn session(
 )
     requires { (case_at k ≡ session first boot script.now output.now at byte) × (at < bench_size) }
 {
-    show_text(name);
-    show_text(b"\n");
-    let same = runs_so(first, boot, script, output, at, byte);
-    show_text(name);
-    show_verdict(same);
+    show_text(rt, name);
+    show_text(rt, b"\n");
+    let same = runs_so(rt, first, boot, script, output, at, byte);
+    show_text(rt, name);
+    show_verdict(rt, same);
 }

@@ -1,7 +1,7 @@
 -- Every case of the table passes, the session comes out as document 01 prints it, and the causes of
 -- the example are those that C-13 names: computed.
 use mathlib.Core.Path.{refl}
-use Rattle.bytes.specs.Bytes.{index_of, index_after}
+use Rattle.hextext.specs.Scan.{index_of}
 use Rattle.hextext.specs.Hex.{digit, value}
 use Rattle.flashrules.specs.Outcome.{outcome}
 use Rattle.flashrules.specs.Layout.{classes, valid as valid_layout, fits}
@@ -35,7 +35,7 @@ use Rattle.casetable.specs.Session.{SessionHolds}
 use Rattle.casetable.specs.Why.{CausesHold}
 
 computed : CasesHold × SessionHolds × CausesHold
-unfolding passes every classes valid_layout fits find_class find_block block_exists block_bytes store_block as_loaded in_range valid register_of is_key key_word obey set_class load_block select_block is_protected edit_error edit changes_keys commit_error committed set_control outcome loaded_of commit write_at write_byte write_bytes bad_span call_error write read_at read_byte read_bytes read_error read supply_error set_supply reply after_call index_of index_after digit value line block_lines serialize_image width add_line candidate holds parse_image is_digit is_whole with_digit with_character feed_byte end_error parse_script reply_text after_frame replay to_bytes from_bytes fits_in width_of is_signed holds_integer valid_parameter in_parameter_range get_error set_error value_in get set set_lower byte_steps write_steps supply_steps reason_of cause_text explanation why
+unfolding passes every classes valid_layout fits find_class find_block block_exists block_bytes store_block as_loaded in_range valid register_of is_key key_word obey set_class load_block select_block is_protected edit_error edit changes_keys commit_error committed set_control outcome loaded_of commit write_at write_byte write_bytes bad_span call_error write read_at read_byte read_bytes read_error read supply_error set_supply reply after_call index_of digit value line block_lines serialize_image width add_line candidate holds parse_image is_digit is_whole with_digit with_character feed_byte end_error parse_script reply_text after_frame replay to_bytes from_bytes fits_in width_of is_signed holds_integer valid_parameter in_parameter_range get_error set_error value_in get set set_lower byte_steps write_steps supply_steps reason_of cause_text explanation why
 computed = (refl, refl, refl)
 
 pub cases_hold : CasesHold

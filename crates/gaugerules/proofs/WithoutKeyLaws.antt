@@ -2,7 +2,7 @@
 -- pending one with them make it, so no word opens the gauge to full access, and the keys stay what
 -- they were, so that it is one key all along.
 use Prim.Native.Nat.{ℕ}
-use mathlib.Core.Path.{◌≡◌, refl, sym, ◌∙◌}
+use mathlib.Core.Path.{◌≡◌, refl, sym, subst, ◌∙◌}
 use mathlib.Core.Logic.{◌⊎◌, inl, inr, ⊎_elim}
 use mathlib.Core.Bool.{true, false, true≢false}
 use mathlib.Core.List.{List, [], ◌∷◌, ◌++◌}
@@ -68,7 +68,7 @@ module _ (l : Layout) (start image ws : List ℕ) (e : key_bytes l image ≡ key
 
   module _ (pending : ℕ) where
     no_word_lem : (g : Gauge) → Waits pending g → ToGuarded pending [] (lock g)
-    no_word_lem g v h r = record { mode = v.mode; boot = v.boot; pending = rw v.is h; rest = r }
+    no_word_lem g v h r = record { mode = v.mode; boot = v.boot; pending = subst (λ (p : ℕ). (p ≡ no_word) ⊎ (sends_full_access_key bs (p ∷ ws) ≡ false)) (sym v.is) h; rest = r }
 
     module _ (g : Gauge) (w : ℕ) (v : Waits pending g) where
       abbrev Obeyed : Gauge → Type 0

@@ -1,3 +1,4 @@
 pub mod StoreLaws
 pub mod HexLaws
 pub mod Laws
+pub mod ScanLaws

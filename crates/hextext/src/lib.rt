@@ -4,6 +4,8 @@
 // not stored, so every function here answers every argument.
 #![tactic(auto)]
 
+pub mod scan;
+
 ghost use Rattle.std.specs.Prelude.{◌≡◌, [], ◌∷◌, ◌+◌, ◌*◌, ◌<◌};
 ghost use Rattle.std.proofs.lemmas.List.Edits.{sets};
 ghost use Rattle.hextext.specs.Hex.{digit, value, pair, hex, unhex, hex_line};

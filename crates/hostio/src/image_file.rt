@@ -3,19 +3,26 @@ ghost use Rattle.std.specs.Prelude.{◌≤◌, length};
 ghost use Rattle.hostio.specs.Loaded.{Loaded};
 
 use crate::input::{Got, read_some};
-use crate::output::report;
+use crate::output::fail;
 use imagereader::read;
 use imagerules::answer::FileRead;
 use imagerules::text::MAX_TEXT;
-use libc::STDERR_FILENO;
+use std::fs::File;
+use std::io::Read;
+use std::rt::Files;
 
 // Reads until the buffer is full, the file ends or a read fails.
-fn fill(fd: i32, name: &[u8], buffer: &mut [u8]) -> Got
+fn fill<R: Eprint + AllocGlobal, F: Read>(
+    rt: &R,
+    file: &mut F,
+    name: &str,
+    buffer: &mut [u8],
+) -> Got
     ensures { result.count ≤ length buffer.old }
 {
     let mut done = 0;
     while done < buffer.len() {
-        let got = read_some(fd, name, &mut buffer[done..]);
+        let got = read_some(rt, file, name, &mut buffer[done..]);
         if got.count == 0 {
             return Got {
                 count: done,
@@ -31,38 +38,39 @@ fn fill(fd: i32, name: &[u8], buffer: &mut [u8]) -> Got
 }
 
 // The file's text at the front of the buffer, as far as it goes.
-fn load_text(name: &[u8], buffer: &mut [u8]) -> Got
+fn load_text<R: Files + Eprint + AllocGlobal>(rt: &R, name: &str, buffer: &mut [u8]) -> Got
     ensures { result.count ≤ length buffer.old }
 {
-    let fd = os::open_read(name);
-    if fd < 0 {
-        os::fail(name);
-        return Got {
-            count: 0,
-            failed: true,
-        };
+    match File::open(rt, name) {
+        Ok(opened) => {
+            let mut file = opened;
+            fill(rt, &mut file, name, buffer)
+        }
+        Err(error) => {
+            fail(rt, name, &error);
+            Got {
+                count: 0,
+                failed: true,
+            }
+        }
     }
-    let got = fill(fd, name, buffer);
-    libc::close(fd);
-    got
 }
 
 // The layout of the file, and its image at the front of the buffer. No image file is longer than
 // MAX_TEXT or empty: of a longer file one byte more is parsed than that, and of one that cannot be
 // read nothing. Where it is refused, the reason goes to standard error under the file's name.
-pub fn load(name: &[u8], buffer: &mut [u8]) -> FileRead
+pub fn load<R: Files + Eprint + AllocGlobal>(rt: &R, name: &str, buffer: &mut [u8]) -> FileRead
     ensures { Loaded result buffer.old buffer.new }
 {
     let mut text = [0u8; MAX_TEXT + 1];
-    let got = load_text(name, &mut text);
+    let got = load_text(rt, name, &mut text);
     if got.failed {
         return read(&text[0..0], buffer);
     }
     let n = got.count;
     let found = read(&text[0..n], buffer);
     if found.error != 0 {
-        io::write_all(STDERR_FILENO, name);
-        report(b": no image file");
+        let _ = eprintln!(rt; "{name}: no image file");
     }
     found
 }

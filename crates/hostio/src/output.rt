@@ -3,7 +3,8 @@ ghost use Rattle.std.specs.Prelude.{◌≡◌, [], ◌∷◌};
 ghost use Rattle.hextext.specs.Hex.{hex_line};
 
 use hextext::encode_line;
-use libc::{STDERR_FILENO, STDOUT_FILENO};
+use std::io;
+use std::io::Write;
 
 // The line that a refused program prints: the number alone.
 pub fn refusal_line(error: u8) -> [u8; 3]
@@ -15,22 +16,48 @@ pub fn refusal_line(error: u8) -> [u8; 3]
 }
 
 // Prints it.
-pub fn refuse(error: u8) {
+pub fn refuse<R: Print + Eprint + AllocGlobal>(rt: &R, error: u8) {
     let line = refusal_line(error);
-    print(&line);
+    print(rt, &line);
 }
 
 // Whether all of it was taken; where it was not, the reason goes to standard error.
-pub fn print(text: &[u8]) -> bool {
-    let done = io::write_all(STDOUT_FILENO, text);
-    if !done {
-        os::fail(b"standard output");
+pub fn print<R: Print + Eprint + AllocGlobal>(rt: &R, text: &[u8]) -> bool {
+    match io::writer(rt).write_all(text) {
+        Ok(()) => true,
+        Err(error) => {
+            fail(rt, "standard output", &error);
+            false
+        }
     }
-    done
 }
 
-// A reason, as a line.
-pub fn report(reason: &[u8]) {
-    io::write_all(STDERR_FILENO, reason);
-    io::write_all(STDERR_FILENO, b"\n");
+// A reason, as a line. Nothing is left to do where it cannot be written.
+pub fn report<R: Eprint>(rt: &R, reason: &str) {
+    let _ = rt.eprintln(reason);
+}
+
+// An error's text without the system's number for it.
+fn without_number(text: &str) -> &str {
+    match text.split_once(" (os error ") {
+        Some((words, _)) => words,
+        None => text,
+    }
+}
+
+// A reason, as a line under a name.
+fn report_under<R: Eprint>(rt: &R, name: &str, text: &str) {
+    let reason = without_number(text);
+    let _ = eprintln!(rt; "{name}: {reason}");
+}
+
+// The system's reason, as a line under a name. Where there is no memory to leave out the system's
+// number, it stands there.
+pub fn fail<R: Eprint + AllocGlobal>(rt: &R, name: &str, error: &io::Error) {
+    match format!(in rt.alloc(); "{error}") {
+        Ok(text) => report_under(rt, name, text.as_str()),
+        Err(_) => {
+            let _ = eprintln!(rt; "{name}: {error}");
+        }
+    }
 }

@@ -18,57 +18,63 @@ use hostio::output::{print, refuse, report};
 use imagerules::answer::FileWritten;
 
 // The one refusal that a file can meet.
-fn refuse_file(error: u8)
+fn refuse_file<R: Print + Eprint + AllocGlobal>(rt: &R, error: u8)
     requires { error ≡ malformed }
 {
-    refuse(error);
+    refuse(rt, error);
 }
 
 // The one refusal that two good files can meet.
-fn refuse_layouts(error: u8)
+fn refuse_layouts<R: Print + Eprint + AllocGlobal>(rt: &R, error: u8)
     requires { error ≡ layout_mismatch }
 {
-    report(b"old.hex and new.hex: layouts differ");
-    refuse(error);
+    report(rt, "old.hex and new.hex: layouts differ");
+    refuse(rt, error);
 }
 
 // The list, at the front of a text, where there is no refusal: nothing printed means equal images.
-fn print_list(written: FileWritten, text: &[u8])
+fn print_list<R: Print + Eprint + AllocGlobal>(rt: &R, written: FileWritten, text: &[u8])
     requires { (written.error ≡ 0) × (written.length ≤ length text.now) }
 {
     let n = written.length;
-    print(&text[0..n]);
+    print(rt, &text[0..n]);
 }
 
 // The list, or the refusal. The buffer has room for the longest list that there is.
-fn show(layout: Layout, old: &[u8], other: Layout, new: &[u8])
+fn show<R: Print + Eprint + AllocGlobal>(
+    rt: &R,
+    layout: Layout,
+    old: &[u8],
+    other: Layout,
+    new: &[u8],
+)
     requires { (fits layout (length old.now) ≡ true) × (fits other (length new.now) ≡ true) }
 {
     let mut text = [0u8; MAX_RUNS_TEXT];
     let written = compare(layout, old, other, new, &mut text);
     if written.error != 0 {
-        refuse_layouts(written.error);
+        refuse_layouts(rt, written.error);
         return;
     }
-    print_list(written, &text);
+    print_list(rt, written, &text);
 }
 
-fn main() {
+fn main(rt: HostRuntime) {
     let mut old_bytes = [0u8; MAX_IMAGE_LENGTH];
     let mut new_bytes = [0u8; MAX_IMAGE_LENGTH];
-    let old = load(b"old.hex", &mut old_bytes);
-    let new = load(b"new.hex", &mut new_bytes);
+    let old = load(&rt, "old.hex", &mut old_bytes);
+    let new = load(&rt, "new.hex", &mut new_bytes);
     if old.error != 0 {
-        refuse_file(old.error);
+        refuse_file(&rt, old.error);
         return;
     }
     if new.error != 0 {
-        refuse_file(new.error);
+        refuse_file(&rt, new.error);
         return;
     }
     let n = old.length;
     let m = new.length;
     let layout = old.layout;
     let other = new.layout;
-    show(layout, &old_bytes[0..n], other, &new_bytes[0..m]);
+    show(&rt, layout, &old_bytes[0..n], other, &new_bytes[0..m]);
 }

@@ -5,7 +5,8 @@ use native.Mathlib.Nat.{add-sub_cancel_left}
 use native.Mathlib.Decide.{dec_le, dec_lt}
 use lib.Seq.{sets, length-sets}
 use borrow.Author.Tests.{lt-leb}
-use Rattle.bytes.specs.Bytes.{index_of, slice}
+use Rattle.std.specs.Prelude.{slice_range}
+use Rattle.hextext.specs.Scan.{index_of}
 use Rattle.hextext.specs.Hex.{pair, unhex, line_feed}
 use Rattle.hextext.proofs.StoreLaws.{sets_front}
 use Rattle.hextext.proofs.HexLaws.{unhex_length}
@@ -30,7 +31,7 @@ module _ (n : ℕ) where
   data_long h = rw (lt-leb n (block_size + 3) h)
 
 -- the line at an index of a text ends at e
-module _ (x : List ℕ) (at e : ℕ) (p : e ≡ at + index_of line_feed (slice at (length x) x)) where
+module _ (x : List ℕ) (at e : ℕ) (p : e ≡ at + index_of line_feed (slice_range x at (length x))) where
   end : e ≡ at + index_of line_feed (drop at x)
   end = line_end x at e p
 

@@ -79,10 +79,10 @@ module _ (x r : List ℕ) (t : Bool) (p : t ≡ holds (candidate x) x) where
     unfolding read
     read_short a u s = rw (good, long, lt-ltb (length r) n u, s)
 
-    -- the image is the part that was lent to be copied
-    pub read_good : (r' : List ℕ) → n ≤ length r → let part = take (n - 0) (drop 0 d) in r' ≡ take (length part) part ++ drop (length part) r
-        → outcome (record { error = 0; layout = l; length = n }) r' ≡ read x r
+    -- the image is the part that was copied to the front
+    pub read_good : (part : List ℕ) → n ≤ length r → part ≡ take (n - 0) (drop 0 d)
+        → outcome (record { error = 0; layout = l; length = n }) (part ++ drop (n - 0) (drop 0 r)) ≡ read x r
     unfolding read
-    read_good r' u s =
-        let w : r' ≡ sets r 0 (take n d) = s ∙ rw (sub-zero, take-length (take n d), sets-eq (take n d) r 0 (omega (arith, long)), zero-add) in
+    read_good part u s =
+        let w : part ++ drop (n - 0) (drop 0 r) ≡ sets r 0 (take n d) = rw (s, sub-zero, sets-eq (take n d) r 0 (omega (arith, long)), zero-add, long) in
         rw (good, long, le-ltb (length r) n u, w)

@@ -2,7 +2,7 @@
 // that they hold. `parse` judges the candidate.
 ghost use Rattle.std.specs.Prelude.{◌≡◌, ◌+◌, ◌*◌, ◌≤◌, length, take, drop};
 ghost use Rattle.std.proofs.lemmas.List.Edits.{sets};
-ghost use Rattle.bytes.specs.Bytes.{index_of};
+ghost use Rattle.hextext.specs.Scan.{index_of};
 ghost use Rattle.hextext.specs.Hex.{unhex, line_feed};
 ghost use Rattle.flashrules.specs.Layout.{max_classes, no_classes};
 ghost use Rattle.flashrules.specs.Lookup.{block_size};
@@ -11,6 +11,7 @@ ghost use Rattle.imagerules.specs.Candidate.{data_bytes, width, class_byte, is_l
 
 use flashrules::layout::{Layout, MAX_CLASSES};
 use flashrules::lookup::BLOCK_SIZE;
+use hextext::scan::find;
 use hextext::{LINE_FEED, decode, pair};
 use imagerules::text::MAX_LINES;
 use std::num::wrapping_add_u16;
@@ -47,7 +48,7 @@ fn line_at(text: &[u8], at: usize) -> Line
     requires { at ≤ length text.now }
     ensures { (result.width ≤ block_size) × (result.width ≡ width (drop at text.now)) × (result.next ≡ at + index_of line_feed (drop at text.now) + 1) }
 {
-    let end = bytes::scan::find(text, at, text.len(), LINE_FEED);
+    let end = find(text, at, text.len(), LINE_FEED);
     let next = end + 1;
     if end < text.len() {
         return Line {

@@ -94,7 +94,7 @@ pub fn read(text: &[u8], buffer: &mut [u8]) -> FileRead
         if buffer.len() < n {
             return not_read(SHORT_BUFFER);
         }
-        bytes::copy(&image[0..n], buffer);
+        buffer[0..n].copy_from_slice(&image[0..n]);
         let layout = found.layout;
         return FileRead {
             error: 0,

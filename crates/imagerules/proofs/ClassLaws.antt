@@ -11,7 +11,7 @@ use lib.Dec.{eqb}
 use lib.ListN.{length, take, drop, get_or, set, length-drop, length-set, length-take, take-append-drop}
 use lib.Seq.{sets, length-take-le, set-set, set-get_or, get_or-set_same}
 use borrow.Author.Tests.{lt-ltb, le-leb, ne_eqb, eq-eqb, leb-true}
-use Rattle.bytes.specs.Bytes.{index_of}
+use Rattle.hextext.specs.Scan.{index_of}
 use Rattle.flashrules.specs.Layout.{max_classes, max_class_length, Class, paired, classes, size_of, in_order, ordered, no_classes}
 use Rattle.flashrules.specs.Choice.{and}
 use Rattle.flashrules.specs.Lookup.{block_size}

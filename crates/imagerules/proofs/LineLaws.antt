@@ -6,10 +6,11 @@ use mathlib.Core.Bool.{false}
 use mathlib.Core.List.{List, [], ◌∷◌, ◌++◌, append_assoc}
 use native.Mathlib.Omega.{arith}
 use lib.Dec.{eqb}
-use lib.ListN.{length, drop, length-append}
+use lib.ListN.{length, drop, length-append, length-drop}
 use lib.Seq.{take-length, take_at, drop_at}
 use borrow.Author.Tests.{lt-ltb, le-leb, ne_eqb}
-use Rattle.bytes.specs.Bytes.{index_of, index_after, slice}
+use Rattle.std.specs.Prelude.{slice_range}
+use Rattle.hextext.specs.Scan.{index_of}
 use Rattle.hextext.specs.Hex.{digit, hex, line_feed}
 use Rattle.hextext.proofs.HexLaws.{hex_back, hex_length, pair_back, digit_above}
 use Rattle.checksum.specs.Checksum.{checksum}
@@ -28,21 +29,22 @@ digit_other n = ne_eqb (digit n) line_feed (λ e. omega (arith, digit_above n))
 
 -- the first line feed is past the digits
 index_hex : (xs r : List ℕ) → index_of line_feed (hex xs ++ r) ≡ 2 * length xs + index_of line_feed r
-unfolding index_of index_after
+unfolding index_of
 index_hex [] r = omega arith
 index_hex (x ∷ xs) r = rw (digit_other (x / 16), digit_other x, index_hex xs r) (omega arith)
 
 -- ---- where the line at an index of a text ends, as a search up to the end of the text finds it
 
-pub line_end : (x : List ℕ) (at e : ℕ) → e ≡ at + index_of line_feed (slice at (length x) x) → e ≡ at + index_of line_feed (drop at x)
-unfolding slice
-line_end x at e p = rw take-length at p
+pub line_end : (x : List ℕ) (at e : ℕ) → e ≡ at + index_of line_feed (slice_range x at (length x)) → e ≡ at + index_of line_feed (drop at x)
+line_end x at e p =
+    let q : slice_range x at (length x) ≡ drop at x = rw (← length-drop at x) (take-length (drop at x)) in
+    p ∙ ap (λ (t : List ℕ). at + index_of line_feed t) q
 
 -- ---- a text that begins with a line
 
 module _ (i b : ℕ) (bs r : List ℕ) (hi : i ≤ max_byte) (hb : Bytes bs) (one : 1 ≤ length bs) (most : length bs ≤ block_size) where
   line_index : index_of line_feed (line i b bs ++ r) ≡ 2 * length bs + 6
-  unfolding line index_of index_after
+  unfolding line index_of
   line_index =
       let end = checksum (as_loaded bs) ∷ [] in
       let xs = i ∷ b ∷ (bs ++ end) in

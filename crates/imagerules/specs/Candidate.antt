@@ -2,7 +2,7 @@
 -- characters are taken for bytes, whatever they are. specs/File.antt holds the candidate to the
 -- text that it would have, so nothing here has to be believed: specs/Laws.antt says what comes out.
 use Rattle.std.specs.Prelude.{ℕ, zero, suc, ◌+◌, ◌-◌, ◌*◌, ◌/◌, ◌%◌, Bool, cond, List, [], ◌∷◌, ◌++◌, eqb, leb, ltb, length, take, drop, get_or, set}
-use Rattle.bytes.specs.Bytes.{index_of}
+use Rattle.hextext.specs.Scan.{index_of}
 use Rattle.hextext.specs.Hex.{pair, unhex, line_feed}
 use Rattle.flashrules.specs.Choice.{and}
 use Rattle.flashrules.specs.Layout.{max_classes, no_classes}

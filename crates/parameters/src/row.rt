@@ -83,7 +83,8 @@ pub(crate) fn value_in(layout: Layout, image: &[u8], parameter: Parameter) -> i6
     ensures { result ≡ value_in layout image.now parameter }
 {
     let mut copy = [0u8; MAX_IMAGE_LENGTH];
-    let n = bytes::copy(image, &mut copy);
+    let n = image.len();
+    copy[0..n].copy_from_slice(image);
     let bytes = fetch(layout, &mut copy[0..n], parameter);
     from_bytes(parameter.kind, bytes)
 }

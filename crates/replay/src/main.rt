@@ -6,6 +6,6 @@
 use scripthost::files::run_files;
 use scriptrules::session::REPORT_REPLIES;
 
-fn main() {
-    run_files(REPORT_REPLIES);
+fn main(rt: HostRuntime) {
+    run_files(&rt, REPORT_REPLIES);
 }

@@ -3,9 +3,9 @@
 use hextext::LINE_FEED;
 use hostio::input::read_some;
 use hostio::output::report;
-use libc::STDERR_FILENO;
 use scriptparser::{feed, start};
 use scriptrules::parser::Parser;
+use std::io::{Read, Seek};
 
 // So many good lines went before, and whether there is more to be read.
 #[derive(Clone, Copy)]
@@ -42,34 +42,42 @@ fn count_lines(state: Parser, lines: u64, chunk: &[u8]) -> Counted {
     }
 }
 
-fn count_some(fd: i32, state: Parser, lines: u64, buffer: &mut [u8]) -> Counted {
-    let got = read_some(fd, b"script.hex", buffer);
+fn count_some<R: Eprint + AllocGlobal, F: Read>(
+    rt: &R,
+    file: &mut F,
+    state: Parser,
+    lines: u64,
+    buffer: &mut [u8],
+) -> Counted {
+    let got = read_some(rt, file, "script.hex", buffer);
     let n = got.count;
     count_lines(state, lines, &buffer[0..n])
 }
 
 // How many good lines come first. The turns are counted down, as in every loop over a file.
-fn good_lines(fd: i32, buffer: &mut [u8]) -> u64 {
-    let mut counted = count_some(fd, start(), 0, buffer);
+fn good_lines<R: Eprint + AllocGlobal, F: Read>(rt: &R, file: &mut F, buffer: &mut [u8]) -> u64 {
+    let mut counted = count_some(rt, file, start(), 0, buffer);
     let mut turns = u64::MAX;
     while turns > 0 {
         if !counted.more {
             return counted.lines;
         }
-        counted = count_some(fd, counted.state, counted.lines, buffer);
+        counted = count_some(rt, file, counted.state, counted.lines, buffer);
         turns -= 1;
     }
     counted.lines
 }
 
 // The reason, as a line on standard error.
-pub(crate) fn diagnose_line(fd: i32, buffer: &mut [u8]) {
-    if libc::lseek(fd, 0, libc::SEEK_SET) != 0 {
-        report(b"script.hex: no script");
+pub(crate) fn diagnose_line<R: Eprint + AllocGlobal, F: Read + Seek>(
+    rt: &R,
+    file: &mut F,
+    buffer: &mut [u8],
+) {
+    if file.rewind().is_err() {
+        report(rt, "script.hex: no script");
         return;
     }
-    let line = std::num::wrapping_add_u64(good_lines(fd, buffer), 1);
-    io::write_all(STDERR_FILENO, b"script.hex: no script: line ");
-    io::print_decimal(STDERR_FILENO, line);
-    report(b" is no frame");
+    let line = good_lines(rt, file, buffer).wrapping_add(1);
+    let _ = eprintln!(rt; "script.hex: no script: line {line} is no frame");
 }

@@ -14,11 +14,12 @@ use flashrules::layout::Layout;
 use framerunner::session::begin;
 use gaugerules::state::BOOT_SEALED;
 use gaugestate::state::power_on;
-use hostio::input::{Got, read_some};
+use hostio::input::{CHUNK, Got, read_some};
 use hostio::output::print;
 use scriptrules::answer::Progress;
 use scriptrules::session::Session;
 use scriptrunner::run::run;
+use std::io::Read;
 use std::num::wrapping_add_u64;
 
 // The session, and which bytes of the buffer are text that has come and was not run; and how many
@@ -47,12 +48,17 @@ fn keep(buffer: &mut [u8], from: usize, to: usize) -> usize
 }
 
 // More text is read behind the buffer's first bytes, which stay.
-fn read_behind(fd: i32, buffer: &mut [u8], kept: usize) -> Got
+fn read_behind<R: Eprint + AllocGlobal, F: Read>(
+    rt: &R,
+    file: &mut F,
+    buffer: &mut [u8],
+    kept: usize,
+) -> Got
     requires { kept ≤ length buffer.old }
     ensures count_in_bounds { kept + result.count ≤ length buffer.old }
     ensures buffer_unchanged { take kept buffer.new ≡ take kept buffer.old }
 {
-    read_some(fd, b"script.hex", &mut buffer[kept..])
+    read_some(rt, file, "script.hex", &mut buffer[kept..])
 }
 
 #[derive(Clone, Copy)]
@@ -62,13 +68,19 @@ struct Refilled {
 }
 
 // More text is read behind what is held, which goes to the front of the buffer.
-fn refill(fd: i32, buffer: &mut [u8], from: usize, to: usize) -> Refilled
+fn refill<R: Eprint + AllocGlobal, F: Read>(
+    rt: &R,
+    file: &mut F,
+    buffer: &mut [u8],
+    from: usize,
+    to: usize,
+) -> Refilled
     requires { (from ≤ to) × (to ≤ length buffer.old) }
     ensures to_in_bounds { result.to ≤ length buffer.old }
     ensures longer { Longer (held buffer.old from to) (held buffer.new 0 result.to) }
 {
     let kept = keep(buffer, from, to);
-    let got = read_behind(fd, buffer, kept);
+    let got = read_behind(rt, file, buffer, kept);
     let n = got.count;
     Refilled {
         to: kept + n,
@@ -96,8 +108,9 @@ fn run_held(
 
 // What is held is run, and what that puts out is printed; where no line of it could be run, more
 // text is read.
-fn turn(
-    fd: i32,
+fn turn<R: Print + Eprint + AllocGlobal, F: Read>(
+    rt: &R,
+    file: &mut F,
     layout: Layout,
     report: u8,
     image: &mut [u8],
@@ -115,7 +128,7 @@ fn turn(
     let after = ran.session;
     let next = from + ran.next;
     if ran.next == 0 {
-        let refilled = refill(fd, buffer, from, to);
+        let refilled = refill(rt, file, buffer, from, to);
         return Held {
             session: after,
             from: 0,
@@ -125,7 +138,7 @@ fn turn(
         };
     }
     let n = ran.length;
-    let more = print(&out[0..n]);
+    let more = print(rt, &out[0..n]);
     Held {
         session: after,
         from: next,
@@ -144,8 +157,9 @@ struct Ended {
 
 // Turn after turn, from power-on. Nothing says that a file ends, so the loop counts down from a
 // number that no run uses up.
-fn turns(
-    fd: i32,
+fn turns<R: Print + Eprint + AllocGlobal, F: Read>(
+    rt: &R,
+    file: &mut F,
     layout: Layout,
     report: u8,
     image: &mut [u8],
@@ -160,7 +174,9 @@ fn turns(
     let mut read: u64 = 0;
     let mut turns = u64::MAX;
     while turns > 0 {
-        let held = turn(fd, layout, report, image, session, buffer, from, to, out);
+        let held = turn(
+            rt, file, layout, report, image, session, buffer, from, to, out,
+        );
         session = held.session;
         from = held.from;
         to = held.to;
@@ -182,21 +198,27 @@ fn turns(
 
 // A script that was parsed is run, over an image of the layout. All of it is read again and nothing
 // of it is held at the end, unless the file changed meanwhile.
-pub(crate) fn run_script(fd: i32, layout: Layout, report: u8, image: &mut [u8], parsed: Parsed)
+pub(crate) fn run_script<R: Print + Eprint + AllocGlobal, F: Read>(
+    rt: &R,
+    file: &mut F,
+    layout: Layout,
+    report: u8,
+    image: &mut [u8],
+    parsed: Parsed,
+)
     requires image_value { fits layout (length image.old) ≡ true }
     requires fed { Fed report start 0 0 parsed.state parsed.count parsed.lines }
     requires state_value { end_error parsed.state ≡ 0 }
     requires lines_value { too_long report parsed.lines ≡ false }
 {
-    let mut buffer = io::large_buffer();
-    let mut out = io::large_buffer();
-    let ended = turns(fd, layout, report, image, &mut buffer, &mut out);
-    libc::close(fd);
+    let mut buffer = [0u8; CHUNK];
+    let mut out = [0u8; CHUNK];
+    let ended = turns(rt, file, layout, report, image, &mut buffer, &mut out);
     if ended.held != 0 {
-        hostio::output::report(b"script.hex: not run to its end");
+        hostio::output::report(rt, "script.hex: not run to its end");
         return;
     }
     if ended.read != parsed.count {
-        hostio::output::report(b"script.hex: not run as it was parsed");
+        hostio::output::report(rt, "script.hex: not run as it was parsed");
     }
 }

@@ -1,7 +1,7 @@
 -- Laws of sessions: how long is what a frame puts out, frames one behind the other, and that a
 -- session puts out the replies of the replay, or the causes that the history names.
 use Prim.Native.Nat.{ℕ, ◌+◌, ◌%◌, ◌^◌, ◌≤◌, ◌<◌}
-use mathlib.Core.Path.{◌≡◌, refl, sym, ◌∙◌}
+use mathlib.Core.Path.{◌≡◌, refl, sym, ap, ◌∙◌}
 use mathlib.Core.Bool.{true, false}
 use mathlib.Core.List.{List, [], ◌∷◌, ◌++◌, append_assoc, append-nil}
 use native.Mathlib.Omega.{arith}
@@ -26,11 +26,11 @@ use Rattle.causerules.proofs.Laws.{notes_remember, supply_remembered}
 use Rattle.causerules.proofs.HistoryLaws.{notes_line}
 use Rattle.causerules.proofs.SupplyLaws.{supply_itself}
 use Rattle.scriptrules.specs.Frame.{Frame, write_frame, read_frame, supply_frame}
-use Rattle.scriptrules.specs.Reply.{max_reply, replies, after_frame}
+use Rattle.scriptrules.specs.Reply.{max_reply, reply_text, replies, after_frame}
 use Rattle.scriptrules.specs.Replay.{replay}
 use Rattle.scriptrules.specs.Why.{frame_steps, explanation, explanations, why}
 use Rattle.scriptrules.specs.Session.{report_causes, Runner, fresh_runner, device_of, track_frame, track_supply_frame, noted_text}
-use Rattle.scriptrules.specs.Session.{frame_text, after_line, outputs, after_lines}
+use Rattle.scriptrules.specs.Session.{frame_text, after_line, after_replied, outputs, after_lines}
 use Rattle.scriptrules.specs.Laws.{OutputLength, OutputWhole}
 use Rattle.scriptrules.proofs.ReplyLaws.{reply_length}
 
@@ -68,7 +68,8 @@ outputs_append l report b (f ∷ fs) gs = rw (outputs_append l report (after_lin
 reports_replies : (l : Layout) (report : ℕ) (b : Runner) (fs : List Frame) → eqb report report_causes ≡ false → outputs l report b fs ≡ replies l (device_of b) fs
 unfolding frame_text after_line
 reports_replies l report b [] p = refl
-reports_replies l report b (f ∷ fs) p = rw (p, reports_replies l report _ fs p)
+reports_replies l report b (f ∷ fs) p =
+    rw p (ap (λ (x : List ℕ). reply_text l (device_of b) f ++ x) (reports_replies l report (after_replied l b f) fs p))
 
 -- ---- a session that reports causes: its notes are worth the history
 

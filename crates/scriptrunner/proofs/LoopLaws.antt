@@ -9,7 +9,8 @@ use lib.Dec.{eqb}
 use lib.ListN.{length, take, drop, length-take, length-drop, drop_of_length-le}
 use lib.Seq.{drop-drop}
 use borrow.Author.Tests.{ne_eqb, lt-ltb, le-ltb, ltb-false, not-false}
-use Rattle.bytes.specs.Bytes.{index_of, index_after, slice}
+use Rattle.std.specs.Prelude.{slice_range}
+use Rattle.hextext.specs.Scan.{index_of}
 use Rattle.flashrules.specs.Error.{malformed, short_buffer}
 use Rattle.flashrules.specs.Refusal.{NoneHolds}
 use Rattle.flashrules.specs.Outcome.{Outcome, outcome}
@@ -80,14 +81,14 @@ answers_behind z image buffer a used p = rw add-sub_cancel_left p
 
 lines_first : (line x : List ℕ) → index_of line_feed x < length x
     → lines_after line x ≡ (line ++ take (index_of line_feed x) x) ∷ lines_of (drop (suc (index_of line_feed x)) x)
-unfolding index_of index_after
+unfolding index_of
 lines_first line [] h = absurd (omega arith)
 lines_first line (c ∷ cs) h =
     on_test (eqb c line_feed) (λ t. rw (t, append-nil))
     (λ t. rw t (rw append_assoc at (lines_first (line ++ (c ∷ [])) cs (let k = rw t at h in omega arith))))
 
 lines_none : (line x : List ℕ) → length x ≤ index_of line_feed x → lines_after line x ≡ []
-unfolding index_of index_after
+unfolding index_of
 lines_none line [] h = refl
 lines_none line (c ∷ cs) h =
     on_test (eqb c line_feed) (λ t. let k = rw t at h in absurd (omega arith))
@@ -104,7 +105,7 @@ module _ (l : Layout) (report : ℕ) (text image buffer : List ℕ) (s : Session
   pub run_done : length text ≤ from → outcome (progress 0 s from out) (lend image buffer) ≡ z
   run_done h = rw (drop_of_length-le text h) at inv
 
-  module _ (end : ℕ) (p : end ≡ from + index_of line_feed (slice from (length text) text)) where
+  module _ (end : ℕ) (p : end ≡ from + index_of line_feed (slice_range text from (length text))) where
     gap : index_of line_feed (drop from text) ≡ end - from
     gap = omega (arith, line_end text from end p)
 

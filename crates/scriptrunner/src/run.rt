@@ -13,6 +13,7 @@ ghost use Rattle.scriptrules.specs.Run.{lend, line_error, answered, run_frame, r
 use flashrules::error::{MALFORMED, SHORT_BUFFER};
 use flashrules::layout::Layout;
 use framerunner::report::{run_read, run_supply, run_write};
+use hextext::scan::find;
 use hextext::{LINE_FEED, decode};
 use scriptparser::is_frame;
 use scriptrules::answer::{Answered, MAX_REPLY, Progress};
@@ -169,7 +170,7 @@ pub fn run(
     let mut from = 0;
     let mut out = 0;
     while from < text.len() {
-        let end = bytes::scan::find(text, from, text.len(), LINE_FEED);
+        let end = find(text, from, text.len(), LINE_FEED);
         if text.len() <= end {
             return Progress {
                 error: 0,

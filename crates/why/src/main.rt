@@ -9,6 +9,6 @@
 use scripthost::files::run_files;
 use scriptrules::session::REPORT_CAUSES;
 
-fn main() {
-    run_files(REPORT_CAUSES);
+fn main(rt: HostRuntime) {
+    run_files(&rt, REPORT_CAUSES);
 }

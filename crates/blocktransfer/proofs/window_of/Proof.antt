@@ -10,18 +10,18 @@ use Rattle.blocktransfer.proofs.TransferLaws.{window_more, window_all}
 use Rattle.blocktransfer.proofs.window_of.Statement.{statement}
 use Rattle.blocktransfer.proofs.window_of.Tie as tie
 
-abbrev invariant-loop : tie.invariant-loop
-invariant-loop part window₀ k₀ window k = (window ≡ paste zero_window 0 part k) × (length window ≡ block_size) × (k ≤ length part)
+abbrev invariant-loop-k : tie.invariant-loop-k
+invariant-loop-k part window₀ k₀ window k = (window ≡ paste zero_window 0 part k) × (length window ≡ block_size) × (k ≤ length part)
 
-abbrev decreases-loop : tie.decreases-loop
-decreases-loop part window₀ k₀ window k = length part - k
+abbrev decreases-loop-k : tie.decreases-loop-k
+decreases-loop-k part window₀ k₀ window k = length part - k
 
 pub window_of_spec : {M : Type 1} → statement M
 window_of_spec =
     tie.close
     (tie.spec
-    invariant-loop
-    decreases-loop
+    invariant-loop-k
+    decreases-loop-k
     (λ c. search rules)
     (λ c. search rules)
     (λ c. search rules)

@@ -9,18 +9,18 @@ use Rattle.flashrules.proofs.ImageLaws.{copy_more, copy_all}
 use Rattle.dataflash.proofs.copy_in.Statement.{statement}
 use Rattle.dataflash.proofs.copy_in.Tie as tie
 
-abbrev invariant-loop : tie.invariant-loop
-invariant-loop image₀ start len window k₀ image k = (length window ≡ block_size) × (image ≡ paste image₀ start window k) × (length image ≡ length image₀) × (k ≤ len)
+abbrev invariant-loop-k : tie.invariant-loop-k
+invariant-loop-k image₀ start len window k₀ image k = (length window ≡ block_size) × (image ≡ paste image₀ start window k) × (length image ≡ length image₀) × (k ≤ len)
 
-abbrev decreases-loop : tie.decreases-loop
-decreases-loop image₀ start len window k₀ image k = len - k
+abbrev decreases-loop-k : tie.decreases-loop-k
+decreases-loop-k image₀ start len window k₀ image k = len - k
 
 pub copy_in_spec : {M : Type 1} → statement M
 copy_in_spec =
     tie.close
     (tie.spec
-    invariant-loop
-    decreases-loop
+    invariant-loop-k
+    decreases-loop-k
     (λ c. search (rules, paste-zero))
     (λ c. search rules)
     (λ c. search rules)

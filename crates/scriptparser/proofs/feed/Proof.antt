@@ -9,18 +9,18 @@ use Rattle.scriptparser.proofs.StateLaws.{feed_more, feed_end}
 use Rattle.scriptparser.proofs.feed.Statement.{statement}
 use Rattle.scriptparser.proofs.feed.Tie as tie
 
-abbrev invariant-loop : tie.invariant-loop
-invariant-loop chunk after₀ i₀ after i = feed after (drop i chunk) ≡ feed after₀ chunk
+abbrev invariant-loop-i : tie.invariant-loop-i
+invariant-loop-i chunk after₀ i₀ after i = feed after (drop i chunk) ≡ feed after₀ chunk
 
-abbrev decreases-loop : tie.decreases-loop
-decreases-loop chunk after₀ i₀ after i = length chunk - i
+abbrev decreases-loop-i : tie.decreases-loop-i
+decreases-loop-i chunk after₀ i₀ after i = length chunk - i
 
 pub feed_spec : {M : Type 1} → statement M
 feed_spec =
     tie.close
     (tie.spec
-    invariant-loop
-    decreases-loop
+    invariant-loop-i
+    decreases-loop-i
     (λ c. search rules)
     (λ c. search rules)
     (λ c κs. search rules)

@@ -6,20 +6,20 @@ use Rattle.causes.proofs.TrackLaws.{track_end, track_more, track_stop}
 use Rattle.causes.proofs.track.track_bytes.Statement.{statement}
 use Rattle.causes.proofs.track.track_bytes.Tie as tie
 
-abbrev invariant-loop : tie.invariant-loop
-invariant-loop layout image₀ register bytes next₀ noted₀ at₀ i₀ image next noted at i =
+abbrev invariant-loop-i : tie.invariant-loop-i
+invariant-loop-i layout image₀ register bytes next₀ noted₀ at₀ i₀ image next noted at i =
     (track_bytes layout image next noted at (drop i bytes) ≡ track_bytes layout image₀ next₀ noted₀ register bytes)
     × (length image ≡ length image₀) × (at ≡ register + i) × (i ≤ length bytes)
 
-abbrev decreases-loop : tie.decreases-loop
-decreases-loop layout image₀ register bytes next₀ noted₀ at₀ i₀ image next noted at i = length bytes - i
+abbrev decreases-loop-i : tie.decreases-loop-i
+decreases-loop-i layout image₀ register bytes next₀ noted₀ at₀ i₀ image next noted at i = length bytes - i
 
 pub track_bytes_spec : {M : Type 1} → statement M
 track_bytes_spec =
     tie.close
     (tie.spec
-    invariant-loop
-    decreases-loop
+    invariant-loop-i
+    decreases-loop-i
     (λ c. search rules)
     (λ c. search rules)
     (λ c κs. search rules)

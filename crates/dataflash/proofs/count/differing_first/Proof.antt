@@ -9,19 +9,19 @@ use Rattle.dataflash.proofs.CountLaws.{count_more, count_all}
 use Rattle.dataflash.proofs.count.differing_first.Statement.{statement}
 use Rattle.dataflash.proofs.count.differing_first.Tie as tie
 
-abbrev invariant-loop : tie.invariant-loop
-invariant-loop a b len n₀ k₀ n k =
+abbrev invariant-loop-k : tie.invariant-loop-k
+invariant-loop-k a b len n₀ k₀ n k =
     (len ≤ length a) × (len ≤ length b) × (n ≡ differing (take k a) (take k b)) × (n ≤ k) × (k ≤ len)
 
-abbrev decreases-loop : tie.decreases-loop
-decreases-loop a b len n₀ k₀ n k = len - k
+abbrev decreases-loop-k : tie.decreases-loop-k
+decreases-loop-k a b len n₀ k₀ n k = len - k
 
 pub differing_first_spec : {M : Type 1} → statement M
 differing_first_spec =
     tie.close
     (tie.spec
-    invariant-loop
-    decreases-loop
+    invariant-loop-k
+    decreases-loop-k
     (λ c. search rules)
     (λ c. search rules)
     (λ c. search rules)

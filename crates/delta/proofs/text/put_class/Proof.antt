@@ -7,18 +7,18 @@ use Rattle.delta.proofs.TextLaws.{RunAt, run_start, run_room, run_less, run_next
 use Rattle.delta.proofs.text.put_class.Statement.{statement}
 use Rattle.delta.proofs.text.put_class.Tie as tie
 
-abbrev invariant-loop : tie.invariant-loop
-invariant-loop class old new buffer₀ at from₀ out₀ buffer from out = RunAt class at old new buffer₀ from out buffer
+abbrev invariant-loop-from : tie.invariant-loop-from
+invariant-loop-from class old new buffer₀ at from₀ out₀ buffer from out = RunAt class at old new buffer₀ from out buffer
 
-abbrev decreases-loop : tie.decreases-loop
-decreases-loop class old new buffer₀ at from₀ out₀ buffer from out = length old - from
+abbrev decreases-loop-from : tie.decreases-loop-from
+decreases-loop-from class old new buffer₀ at from₀ out₀ buffer from out = length old - from
 
 pub put_class_spec : {M : Type 1} → statement M
 put_class_spec =
     tie.close
     (tie.spec
-    invariant-loop
-    decreases-loop
+    invariant-loop-from
+    decreases-loop-from
     (λ c κs. search rules)
     (λ c. search run_start)
     (λ c κs. search rules)

@@ -6,18 +6,18 @@ use Rattle.delta.proofs.TextLaws.{ClassAt, class_start, part_inside, part_inside
 use Rattle.delta.proofs.text.put_runs.Statement.{statement}
 use Rattle.delta.proofs.text.put_runs.Tie as tie
 
-abbrev invariant-loop : tie.invariant-loop
-invariant-loop old new buffer₀ layout k₀ from₀ out₀ buffer k from out = ClassAt layout old new buffer₀ k from out buffer
+abbrev invariant-loop-k : tie.invariant-loop-k
+invariant-loop-k old new buffer₀ layout k₀ from₀ out₀ buffer k from out = ClassAt layout old new buffer₀ k from out buffer
 
-abbrev decreases-loop : tie.decreases-loop
-decreases-loop old new buffer₀ layout k₀ from₀ out₀ buffer k from out = layout.count - k
+abbrev decreases-loop-k : tie.decreases-loop-k
+decreases-loop-k old new buffer₀ layout k₀ from₀ out₀ buffer k from out = layout.count - k
 
 pub put_runs_spec : {M : Type 1} → statement M
 put_runs_spec =
     tie.close
     (tie.spec
-    invariant-loop
-    decreases-loop
+    invariant-loop-k
+    decreases-loop-k
     (λ c. search (rules, class_start))
     (λ c κs. search rules)
     (λ c. search rules)

@@ -10,18 +10,18 @@ use Rattle.gauge.proofs.ReadLaws.{fill_start, fill_end, fill_more}
 use Rattle.gauge.proofs.read.fill.Statement.{statement}
 use Rattle.gauge.proofs.read.fill.Tie as tie
 
-abbrev invariant-loop : tie.invariant-loop
-invariant-loop gauge register count buffer₀ at₀ i₀ buffer at i = (take i buffer ++ (read_bytes gauge at (count - i) ++ drop count buffer) ≡ read_bytes gauge register count ++ drop count buffer₀) × (length buffer ≡ length buffer₀) × (at ≡ register + i) × (i ≤ count)
+abbrev invariant-loop-i : tie.invariant-loop-i
+invariant-loop-i gauge register count buffer₀ at₀ i₀ buffer at i = (take i buffer ++ (read_bytes gauge at (count - i) ++ drop count buffer) ≡ read_bytes gauge register count ++ drop count buffer₀) × (length buffer ≡ length buffer₀) × (at ≡ register + i) × (i ≤ count)
 
-abbrev decreases-loop : tie.decreases-loop
-decreases-loop gauge register count buffer₀ at₀ i₀ buffer at i = count - i
+abbrev decreases-loop-i : tie.decreases-loop-i
+decreases-loop-i gauge register count buffer₀ at₀ i₀ buffer at i = count - i
 
 pub fill_spec : {M : Type 1} → statement M
 fill_spec =
     tie.close
     (tie.spec
-    invariant-loop
-    decreases-loop
+    invariant-loop-i
+    decreases-loop-i
     (λ c. (search fill_start, search rules, search rules, search rules))
     (λ c κs. search rules)
     (λ c. search rules)

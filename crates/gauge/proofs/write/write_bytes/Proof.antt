@@ -10,20 +10,20 @@ use Rattle.gauge.proofs.WriteLaws.{run_end, run_more, run_stop, window_stays, su
 use Rattle.gauge.proofs.write.write_bytes.Statement.{statement}
 use Rattle.gauge.proofs.write.write_bytes.Tie as tie
 
-abbrev invariant-loop : tie.invariant-loop
-invariant-loop layout image₀ register bytes next₀ at₀ i₀ changed₀ image next at i changed =
+abbrev invariant-loop-i : tie.invariant-loop-i
+invariant-loop-i layout image₀ register bytes next₀ at₀ i₀ changed₀ image next at i changed =
     (write_bytes layout image next at i changed (drop i bytes) ≡ write_bytes layout image₀ next₀ register 0 0 bytes)
     × (length image ≡ length image₀) × (at ≡ register + i) × (i ≤ length bytes) × (length next.window ≡ block_size) × (changed ≤ block_size * i)
 
-abbrev decreases-loop : tie.decreases-loop
-decreases-loop layout image₀ register bytes next₀ at₀ i₀ changed₀ image next at i changed = length bytes - i
+abbrev decreases-loop-i : tie.decreases-loop-i
+decreases-loop-i layout image₀ register bytes next₀ at₀ i₀ changed₀ image next at i changed = length bytes - i
 
 pub write_bytes_spec : {M : Type 1} → statement M
 write_bytes_spec =
     tie.close
     (tie.spec
-    invariant-loop
-    decreases-loop
+    invariant-loop-i
+    decreases-loop-i
     (λ c. search rules)
     (λ c. search rules)
     (λ c κs. search rules)

@@ -10,18 +10,18 @@ use Rattle.gaugestate.proofs.StateLaws.{zero_end, zero_on, zero_not}
 use Rattle.gaugestate.proofs.valid.is_zero.Statement.{statement}
 use Rattle.gaugestate.proofs.valid.is_zero.Tie as tie
 
-abbrev invariant-loop : tie.invariant-loop
-invariant-loop window k₀ k = (length window ≡ block_size) × (is_zero (drop k window) ≡ is_zero window) × (k ≤ block_size)
+abbrev invariant-loop-k : tie.invariant-loop-k
+invariant-loop-k window k₀ k = (length window ≡ block_size) × (is_zero (drop k window) ≡ is_zero window) × (k ≤ block_size)
 
-abbrev decreases-loop : tie.decreases-loop
-decreases-loop window k₀ k = block_size - k
+abbrev decreases-loop-k : tie.decreases-loop-k
+decreases-loop-k window k₀ k = block_size - k
 
 pub is_zero_spec : {M : Type 1} → statement M
 is_zero_spec =
     tie.close
     (tie.spec
-    invariant-loop
-    decreases-loop
+    invariant-loop-k
+    decreases-loop-k
     (λ c. search rules)
     (λ c. search rules)
     (λ c. search rules)

@@ -6,18 +6,18 @@ use Rattle.imagereader.proofs.CandidateLaws.{LineAt, line_start, all_lines, no_l
 use Rattle.imagereader.proofs.candidate.candidate.Statement.{statement}
 use Rattle.imagereader.proofs.candidate.candidate.Tie as tie
 
-abbrev invariant-loop : tie.invariant-loop
-invariant-loop text buffer₀ layout₀ at₀ out₀ n₀ buffer layout at out n = LineAt text buffer₀ layout at out n buffer
+abbrev invariant-loop-n : tie.invariant-loop-n
+invariant-loop-n text buffer₀ layout₀ at₀ out₀ n₀ buffer layout at out n = LineAt text buffer₀ layout at out n buffer
 
-abbrev decreases-loop : tie.decreases-loop
-decreases-loop text buffer₀ layout₀ at₀ out₀ n₀ buffer layout at out n = max_lines - n
+abbrev decreases-loop-n : tie.decreases-loop-n
+decreases-loop-n text buffer₀ layout₀ at₀ out₀ n₀ buffer layout at out n = max_lines - n
 
 pub candidate_spec : {M : Type 1} → statement M
 candidate_spec =
     tie.close
     (tie.spec
-    invariant-loop
-    decreases-loop
+    invariant-loop-n
+    decreases-loop-n
     (λ c κs. search rules)
     (λ c. search (rules, line_start))
     (λ c κs. search rules)

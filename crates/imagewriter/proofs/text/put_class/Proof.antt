@@ -7,18 +7,18 @@ use Rattle.imagewriter.proofs.WriteLaws.{BlockAt, block_start, block_next, block
 use Rattle.imagewriter.proofs.text.put_class.Statement.{statement}
 use Rattle.imagewriter.proofs.text.put_class.Tie as tie
 
-abbrev invariant-loop : tie.invariant-loop
-invariant-loop class bytes buffer₀ at block₀ from₀ out₀ buffer block from out = BlockAt class at bytes buffer₀ block from out buffer
+abbrev invariant-loop-from : tie.invariant-loop-from
+invariant-loop-from class bytes buffer₀ at block₀ from₀ out₀ buffer block from out = BlockAt class at bytes buffer₀ block from out buffer
 
-abbrev decreases-loop : tie.decreases-loop
-decreases-loop class bytes buffer₀ at block₀ from₀ out₀ buffer block from out = length bytes - from
+abbrev decreases-loop-from : tie.decreases-loop-from
+decreases-loop-from class bytes buffer₀ at block₀ from₀ out₀ buffer block from out = length bytes - from
 
 pub put_class_spec : {M : Type 1} → statement M
 put_class_spec =
     tie.close
     (tie.spec
-    invariant-loop
-    decreases-loop
+    invariant-loop-from
+    decreases-loop-from
     (λ c. search (rules, block_start))
     (λ c κs. (search rules, search rules))
     (λ c. search rules)

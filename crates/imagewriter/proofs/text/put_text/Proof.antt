@@ -6,18 +6,18 @@ use Rattle.imagewriter.proofs.WriteLaws.{ClassAt, class_start, class_end, part_s
 use Rattle.imagewriter.proofs.text.put_text.Statement.{statement}
 use Rattle.imagewriter.proofs.text.put_text.Tie as tie
 
-abbrev invariant-loop : tie.invariant-loop
-invariant-loop image buffer₀ layout k₀ from₀ out₀ buffer k from out = ClassAt layout image buffer₀ k from out buffer
+abbrev invariant-loop-k : tie.invariant-loop-k
+invariant-loop-k image buffer₀ layout k₀ from₀ out₀ buffer k from out = ClassAt layout image buffer₀ k from out buffer
 
-abbrev decreases-loop : tie.decreases-loop
-decreases-loop image buffer₀ layout k₀ from₀ out₀ buffer k from out = layout.count - k
+abbrev decreases-loop-k : tie.decreases-loop-k
+decreases-loop-k image buffer₀ layout k₀ from₀ out₀ buffer k from out = layout.count - k
 
 pub put_text_spec : {M : Type 1} → statement M
 put_text_spec =
     tie.close
     (tie.spec
-    invariant-loop
-    decreases-loop
+    invariant-loop-k
+    decreases-loop-k
     (λ c. search (rules, class_start))
     (λ c κs. search rules)
     (λ c. search rules)

@@ -11,18 +11,18 @@ use Rattle.imagewriter.proofs.WriteLaws.{valid_whole, length_more, length_end, l
 use Rattle.imagewriter.proofs.text.text_length.Statement.{statement}
 use Rattle.imagewriter.proofs.text.text_length.Tie as tie
 
-abbrev invariant-loop : tie.invariant-loop
-invariant-loop layout sum₀ k₀ sum k = Whole layout × (sum + text_length (drop k (classes layout)) ≡ text_length (classes layout)) × (sum ≤ 200000 * k)
+abbrev invariant-loop-k : tie.invariant-loop-k
+invariant-loop-k layout sum₀ k₀ sum k = Whole layout × (sum + text_length (drop k (classes layout)) ≡ text_length (classes layout)) × (sum ≤ 200000 * k)
 
-abbrev decreases-loop : tie.decreases-loop
-decreases-loop layout sum₀ k₀ sum k = layout.count - k
+abbrev decreases-loop-k : tie.decreases-loop-k
+decreases-loop-k layout sum₀ k₀ sum k = layout.count - k
 
 pub text_length_spec : {M : Type 1} → statement M
 text_length_spec =
     tie.close
     (tie.spec
-    invariant-loop
-    decreases-loop
+    invariant-loop-k
+    decreases-loop-k
     (λ c. search (rules, valid_whole))
     (λ c κs. search rules)
     (λ c κs. search rules)

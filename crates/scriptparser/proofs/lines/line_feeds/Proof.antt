@@ -9,18 +9,18 @@ use Rattle.scriptparser.proofs.LineLaws.{feeds_more, feeds_all}
 use Rattle.scriptparser.proofs.lines.line_feeds.Statement.{statement}
 use Rattle.scriptparser.proofs.lines.line_feeds.Tie as tie
 
-abbrev invariant-loop : tie.invariant-loop
-invariant-loop chunk n₀ i₀ n i = (n ≡ length (lines_of (take i chunk))) × (n ≤ i) × (i ≤ length chunk)
+abbrev invariant-loop-i : tie.invariant-loop-i
+invariant-loop-i chunk n₀ i₀ n i = (n ≡ length (lines_of (take i chunk))) × (n ≤ i) × (i ≤ length chunk)
 
-abbrev decreases-loop : tie.decreases-loop
-decreases-loop chunk n₀ i₀ n i = length chunk - i
+abbrev decreases-loop-i : tie.decreases-loop-i
+decreases-loop-i chunk n₀ i₀ n i = length chunk - i
 
 pub line_feeds_spec : {M : Type 1} → statement M
 line_feeds_spec =
     tie.close
     (tie.spec
-    invariant-loop
-    decreases-loop
+    invariant-loop-i
+    decreases-loop-i
     (λ c. search rules)
     (λ c. search rules)
     (λ c κs. search rules)

@@ -152,18 +152,13 @@ module _ (l : Layout) (image image₁ : List ℕ) (p : Parameter) (same : image�
 pub image_small : (l : Layout) (image : List ℕ) (p : Parameter) → get_error l (length image) p ≡ 0 → length image ≤ max_image_length
 image_small l image p e = (readable l (length image) p e).small
 
-module _ (l : Layout) (image : List ℕ) (p : Parameter) (n : ℕ) (m : n ≡ length image) (buffer copy : List ℕ)
-    (c : copy ≡ take (length image) image ++ drop (length image) buffer) where
-  copied : take (n - 0) copy ≡ image
-  copied = rw (sub-zero, c, m, take-length image) (take_at image (drop (length image) buffer) (length image) refl)
+-- an image copied to the front of a buffer
+module _ (l : Layout) (image : List ℕ) (p : Parameter) (buffer copy : List ℕ)
+    (c : copy ≡ image ++ drop (length image - 0) (drop 0 buffer)) where
+  copied : take (length image - 0) copy ≡ image
+  copied = rw (sub-zero, c) (take_at image (drop (length image - 0) (drop 0 buffer)) (length image) refl)
 
-  pub copy_end : n ≤ length copy
-  copy_end = rw (c, take-length image) (omega (arith, m, length-append image (drop (length image) buffer)))
-
-  pub copy_free : get_error l (length image) p ≡ 0 → get_error l (length (take (n - 0) (drop 0 copy))) p ≡ 0
-  copy_free e = rw copied e
-
-  pub value_read : (bytes : List ℕ) (v : ℤ) → take (width_of p.kind) bytes ≡ row_bytes l (take (n - 0) (drop 0 copy)) p
+  pub value_read : (bytes : List ℕ) (v : ℤ) → take (width_of p.kind) bytes ≡ row_bytes l (take (length image - 0) (drop 0 copy)) p
       → v ≡ from_bytes (is_signed p.kind) (take (width_of p.kind) bytes) → v ≡ value_in l image p
   unfolding value_in
   value_read bytes v f e = rw (f, copied) at e

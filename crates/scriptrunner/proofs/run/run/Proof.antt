@@ -10,18 +10,18 @@ use Rattle.scriptrunner.proofs.LoopLaws.{run_start, run_done, run_end, run_more,
 use Rattle.scriptrunner.proofs.run.run.Statement.{statement}
 use Rattle.scriptrunner.proofs.run.run.Tie as tie
 
-abbrev invariant-loop : tie.invariant-loop
-invariant-loop layout report image₀ text buffer₀ after₀ from₀ out₀ image buffer after from out = (run_lines layout report image after (lines_of (drop from text)) buffer from out ≡ run layout report image₀ after₀ text buffer₀) × (from ≤ length text) × (out ≤ length buffer) × (length buffer ≡ length buffer₀) × (length image ≡ length image₀)
+abbrev invariant-loop-from : tie.invariant-loop-from
+invariant-loop-from layout report image₀ text buffer₀ after₀ from₀ out₀ image buffer after from out = (run_lines layout report image after (lines_of (drop from text)) buffer from out ≡ run layout report image₀ after₀ text buffer₀) × (from ≤ length text) × (out ≤ length buffer) × (length buffer ≡ length buffer₀) × (length image ≡ length image₀)
 
-abbrev decreases-loop : tie.decreases-loop
-decreases-loop layout report image₀ text buffer₀ after₀ from₀ out₀ image buffer after from out = length text - from
+abbrev decreases-loop-from : tie.decreases-loop-from
+decreases-loop-from layout report image₀ text buffer₀ after₀ from₀ out₀ image buffer after from out = length text - from
 
 pub run_spec : {M : Type 1} → statement M
 run_spec =
     tie.close
     (tie.spec
-    invariant-loop
-    decreases-loop
+    invariant-loop-from
+    decreases-loop-from
     (λ c. (search run_start, search rules, search rules, search rules, search rules))
     (λ c κs. search rules)
     (λ c. search rules)

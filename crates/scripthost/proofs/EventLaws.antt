@@ -21,18 +21,18 @@ module _ (l : Layout) (report : ℕ) where
   handle_append h (s ∷ ss) ts = handle_append (handle l report h s) ss ts
 
   -- what was printed before makes no difference to the device or to the text that is held
-  handle_printed : (b : Runner) (x p q : List ℕ) (ss : List Event)
+  handle_printed : (ss : List Event) (b : Runner) (x p q : List ℕ)
       → ((handle_all l report (host b x p) ss).runner ≡ (handle_all l report (host b x q) ss).runner) × ((handle_all l report (host b x p) ss).held ≡ (handle_all l report (host b x q) ss).held)
-  handle_printed b x p q [] = (refl, refl)
-  handle_printed b x p q (arrives y ∷ ss) = handle_printed b (x ++ y) p q ss
-  handle_printed b x p q (runs out ∷ ss) = handle_printed _ _ _ _ ss
+  handle_printed [] b x p q = (refl, refl)
+  handle_printed (arrives y ∷ ss) b x p q = handle_printed ss b (x ++ y) p q
+  handle_printed (runs out ∷ ss) b x p q = handle_printed ss _ _ _ _
 
   on : (b b' : Runner) (x x' : List ℕ) (ss : List Event) → (handle_all l report (host b x []) ss).runner ≡ b' → (handle_all l report (host b x []) ss).held ≡ x'
       → (ts : List Event) → ((handle_all l report (host b x []) (ss ++ ts)).runner ≡ (handle_all l report (host b' x' []) ts).runner) × ((handle_all l report (host b x []) (ss ++ ts)).held ≡ (handle_all l report (host b' x' []) ts).held)
   on b b' x x' ss p q ts =
       let h = handle_all l report (host b x []) ss in
       rw (handle_append (host b x []) ss ts, ← p, ← q)
-      (handle_printed h.runner h.held h.printed [] ts)
+      (handle_printed ts h.runner h.held h.printed [])
 
   events_on : (b b' b'' : Runner) (x x' x'' : List ℕ) → ByEvents l report b x b' x' → ByEvents l report b' x' b'' x'' → ByEvents l report b x b'' x''
   events_on b b' b'' x x' x'' first second =

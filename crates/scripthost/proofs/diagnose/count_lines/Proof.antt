@@ -3,18 +3,18 @@ use Rattle.std.proofs.Common.{◌-◌, ◌≤◌, length, rules}
 use Rattle.scripthost.proofs.diagnose.count_lines.Statement.{statement}
 use Rattle.scripthost.proofs.diagnose.count_lines.Tie as tie
 
-abbrev invariant-loop : tie.invariant-loop
-invariant-loop lines chunk after₀ n₀ i₀ after n i = i ≤ length chunk
+abbrev invariant-loop-i : tie.invariant-loop-i
+invariant-loop-i lines chunk after₀ n₀ i₀ after n i = i ≤ length chunk
 
-abbrev decreases-loop : tie.decreases-loop
-decreases-loop lines chunk after₀ n₀ i₀ after n i = length chunk - i
+abbrev decreases-loop-i : tie.decreases-loop-i
+decreases-loop-i lines chunk after₀ n₀ i₀ after n i = length chunk - i
 
 pub count_lines_spec : {M : Type 1} → statement M
 count_lines_spec =
     tie.close
     (tie.spec
-    invariant-loop
-    decreases-loop
+    invariant-loop-i
+    decreases-loop-i
     (λ c. search rules)
     (λ c. search rules)
     (λ c. search rules)

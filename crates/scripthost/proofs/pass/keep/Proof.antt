@@ -5,18 +5,18 @@ use Rattle.scripthost.proofs.HeldLaws.{keep_more, keep_rest, keep_end}
 use Rattle.scripthost.proofs.pass.keep.Statement.{statement}
 use Rattle.scripthost.proofs.pass.keep.Tie as tie
 
-abbrev invariant-loop : tie.invariant-loop
-invariant-loop buffer₀ from to n i₀ buffer i = (take i buffer ≡ take i (drop from buffer₀)) × (drop i buffer ≡ drop i buffer₀) × (i ≤ n) × (length buffer ≡ length buffer₀)
+abbrev invariant-loop-i : tie.invariant-loop-i
+invariant-loop-i buffer₀ from to n i₀ buffer i = (take i buffer ≡ take i (drop from buffer₀)) × (drop i buffer ≡ drop i buffer₀) × (i ≤ n) × (length buffer ≡ length buffer₀)
 
-abbrev decreases-loop : tie.decreases-loop
-decreases-loop buffer₀ from to n i₀ buffer i = n - i
+abbrev decreases-loop-i : tie.decreases-loop-i
+decreases-loop-i buffer₀ from to n i₀ buffer i = n - i
 
 pub keep_spec : {M : Type 1} → statement M
 keep_spec =
     tie.close
     (tie.spec
-    invariant-loop
-    decreases-loop
+    invariant-loop-i
+    decreases-loop-i
     (λ c. search rules)
     (λ c. search rules)
     (λ c. search rules)

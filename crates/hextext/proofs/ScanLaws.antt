@@ -1,5 +1,5 @@
 -- Laws of the search for a byte, one index after another.
-use Rattle.std.proofs.Common.{◌≡◌, ℕ, zero, suc, ◌+◌, ◌-◌, ◌<◌, ◌≤◌, List, [], ◌∷◌, length, get_or, take, drop, eqb, refl, ap, ◌∙◌, sym, arith, add-one, drop-cons, drop_of_length-le}
+use Rattle.std.proofs.Common.{◌≡◌, ℕ, zero, suc, ◌+◌, ◌-◌, ◌<◌, ◌≤◌, List, [], ◌∷◌, length, get_or, take, refl, ap, ◌∙◌, arith, add-one, drop-cons, drop_of_length-le}
 use Rattle.std.specs.Prelude.{slice_range, ◌≢◌}
 use borrow.Author.Tests.{eq-eqb, ne_eqb}
 use Rattle.hextext.specs.Scan.{index_of}

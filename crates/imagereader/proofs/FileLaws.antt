@@ -1,7 +1,7 @@
 -- Laws of the calls: a text held to the text that is written again, and the answers.
 use Rattle.std.proofs.Common.{◌≡◌, ℕ, ◌-◌, ◌<◌, ◌≤◌, Bool, true, false, cond, List, ◌++◌, length, take, drop, sym, refl, ◌∙◌, true≢false, zero-add, arith, length-take-le, le-ltb, lt-ltb}
 use native.Mathlib.Nat.{sub-zero}
-use lib.Seq.{sets, sets-eq, take-length}
+use lib.Seq.{sets, sets-eq}
 use Rattle.flashrules.specs.Error.{malformed, short_buffer}
 use Rattle.flashrules.specs.Outcome.{outcome}
 use Rattle.flashrules.specs.Choice.{same}

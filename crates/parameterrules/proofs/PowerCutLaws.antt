@@ -6,7 +6,7 @@ use Rattle.hextext.proofs.StoreLaws.{sets_again}
 use Rattle.flashrules.specs.Outcome.{outcome}
 use Rattle.parameterrules.specs.Integer.{to_bytes, from_bytes}
 use Rattle.parameterrules.specs.Kind.{width_of, is_signed}
-use Rattle.parameterrules.specs.Parameter.{get_error, set_error, start_in, value_in, set}
+use Rattle.parameterrules.specs.Parameter.{get_error, set_error, start_in, value_in}
 use Rattle.parameterrules.specs.Commits.{lower_width, lower_bytes, upper_bytes, between_commits, mixed_bytes}
 use Rattle.parameterrules.specs.PowerCut.{CutReplaces, GetAfterCut, SetAfterCut}
 use Rattle.parameterrules.proofs.PlaceLaws.{readable, settable, lower_length}

@@ -6,7 +6,7 @@ use mathlib.Core.List.{List, [], ◌∷◌, ◌++◌, append_assoc, append-nil}
 use native.Mathlib.Nat.{sub-zero}
 use native.Mathlib.Omega.{arith}
 use lib.ListN.{length, get_or, take, drop, replicate, length-append, length-take, length-drop, take-append-drop}
-use lib.Seq.{take_at, drop_at, drop-length, take-add, drop-drop, take-length, length-take-le}
+use lib.Seq.{take_at, drop_at, drop-length, take-add, drop-drop, length-take-le}
 use lib.IntN.{ℤ}
 use mir.Syntax.{w8}
 use mir.Val.{Fits}

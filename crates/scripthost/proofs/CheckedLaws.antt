@@ -1,6 +1,6 @@
 -- What was found of the script: chunks fed one after the other, and what that is worth where
 -- nothing was refused.
-use Rattle.std.proofs.Common.{◌≡◌, ℕ, ◌+◌, Bool, true, false, ◌++◌, sym, ◌∙◌, true≢false, arith, length-append}
+use Rattle.std.proofs.Common.{◌≡◌, ℕ, Bool, true, false, ◌++◌, sym, ◌∙◌, true≢false, arith, length-append}
 use Rattle.scriptrules.specs.Parser.{start, end_error}
 use Rattle.scriptrules.specs.Session.{too_long}
 use Rattle.scriptrules.specs.declared.parser.Parser.{Parser}

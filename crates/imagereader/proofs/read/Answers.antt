@@ -1,5 +1,4 @@
 -- By what was parsed.
-use Rattle.std.proofs.Common.{rules}
 use Rattle.imagereader.proofs.FileLaws.{read_bad, read_short, read_good}
 use Rattle.imagereader.proofs.read.Goals as goal
 

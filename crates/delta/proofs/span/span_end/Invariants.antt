@@ -1,11 +1,9 @@
 -- `delta::span::span_end` meets its contract. The invariant: what is left of the span ends where
 -- the whole ends.
-use borrow.Author.Rules.{rules}
 use mathlib.Core.Path.{◌≡◌}
 use Prim.Native.Nat.{◌+◌, ◌-◌, ◌≤◌}
 use lib.ListN.{length, drop}
 use Rattle.delta.specs.Span.{span}
-use Rattle.delta.proofs.SpanLaws.{span_out, equal_end, equal_on, differing_end, differing_on}
 use Rattle.delta.proofs.span.span_end.Given as goal
 
 abbrev pub invariant-loop-i : goal.invariant-loop-i

@@ -1,5 +1,5 @@
 -- The invariant: what is filled is within the buffer.
-use Rattle.std.proofs.Common.{◌≡◌, ◌-◌, ◌≤◌, length}
+use Rattle.std.proofs.Common.{◌-◌, ◌≤◌, length}
 use Rattle.hostio.proofs.image_file.fill.Given as goal
 
 abbrev pub invariant-loop-done : goal.invariant-loop-done

@@ -1,9 +1,14 @@
-//! The MIR of a crate: what every compiler of it is given.
+//! The MIR of a crate: what every compiler of it is given. It is read as text: a list of pairs of a
+//! name and a definition, which begins with the number of its lifetimes.
 
 use std::collections::BTreeSet;
 
 /// How a body goes on in more than one way, or more than once.
-const BRANCHES: [&str; 5] = ["if", "switch", "block", "loop", "exit"];
+const BRANCHES: [&str; 5] = ["If", "Switch", "Block", "Loop", "Exit"];
+
+/// What stands before the name of a function that is called, and what behind one that is defined.
+const CALLED: &str = "{\"Fn\":[\"";
+const DEFINED: &str = "\",{\"lifetimes\":";
 
 /// The function, and all that it calls, directly or through others. Fails for one that is not
 /// defined here.
@@ -12,7 +17,7 @@ pub fn reached<'a>(mir: &'a str, function: &'a str) -> Result<BTreeSet<&'a str>,
     let mut open = vec![function];
     while let Some(name) = open.pop() {
         if found.insert(name) {
-            open.extend(quoted(body(mir, name)?, "(fnRef \""));
+            open.extend(quoted(body(mir, name)?, CALLED));
         }
     }
     Ok(found)
@@ -21,21 +26,24 @@ pub fn reached<'a>(mir: &'a str, function: &'a str) -> Result<BTreeSet<&'a str>,
 /// The forms of branches that a function has.
 pub fn branches(mir: &str, function: &str) -> Result<Vec<&'static str>, String> {
     let body = body(mir, function)?;
-    Ok(BRANCHES.into_iter().filter(|form| body.contains(&format!("({form} "))).collect())
+    Ok(BRANCHES.into_iter().filter(|form| body.contains(&format!("\"{form}\""))).collect())
 }
 
 /// The functions of the same crate that may know a byte before all are looked at: they are no part
 /// of the function, and read memory or call a part of it in place of the whole.
 pub fn bypasses<'a>(mir: &'a str, function: &'a str) -> Result<Vec<&'a str>, String> {
     let parts = reached(mir, function)?;
-    let start = format!("(fn-def \"{}::", function.split("::").next().unwrap_or(function));
-    let of_crate = mir.match_indices(&start).map(|(at, _)| &mir[at + "(fn-def \"".len()..]);
-    let names = of_crate.filter_map(|rest| rest.split('"').next());
+    let start = format!("[\"{}::", function.split("::").next().unwrap_or(function));
+    let named = mir.match_indices(&start).map(|(at, _)| &mir[at + "[\"".len()..]);
+    let names = named.filter_map(|rest| {
+        let name = rest.split('"').next()?;
+        rest[name.len()..].starts_with(DEFINED).then_some(name)
+    });
     let mut found = Vec::new();
     for name in names.filter(|name| !parts.contains(name)) {
         let body = body(mir, name)?;
         let is_part = |callee: &&str| *callee != function && parts.contains(callee);
-        if body.contains("(deref ") || quoted(body, "(fnRef \"").iter().any(is_part) {
+        if body.contains("\"Deref\"") || quoted(body, CALLED).iter().any(is_part) {
             found.push(name);
         }
     }
@@ -43,12 +51,12 @@ pub fn bypasses<'a>(mir: &'a str, function: &'a str) -> Result<Vec<&'a str>, Str
 }
 
 fn body<'a>(mir: &'a str, function: &str) -> Result<&'a str, String> {
-    let start = format!("(fn-def \"{function}\"");
+    let start = format!("[\"{function}{DEFINED}");
     let at = mir.find(&start).ok_or(format!("{function} has no MIR"))?;
     let definition = &mir[at..];
     let mut depth = 0;
     let end = definition.find(|c| {
-        depth += i32::from(c == '(') - i32::from(c == ')');
+        depth += i32::from(c == '[') - i32::from(c == ']');
         depth == 0
     });
     Ok(&definition[..end.ok_or(format!("the MIR of {function} does not end"))?])
@@ -63,10 +71,12 @@ fn quoted<'a>(text: &'a str, start: &str) -> Vec<&'a str> {
 mod tests {
     use super::*;
 
-    const MIR: &str = r#"program (lcons (fn-def "c::low" (fnItem 0 return)) (lcons
-        (fn-def "c::sum" (seq (call (direct (fnRef "c::low")) lnil (place 1 lnil)) return)) (lcons
-        (fn-def "c::test" (seq (call (direct (fnRef "c::sum")) lnil (place 1 lnil))
-            (if (copy (place 1 lnil)) return skip))) lnil))) (fnRef "c::main")"#;
+    const MIR: &str = concat!(
+        r#"[["c::low",{"lifetimes":0,"body":["Return"]}],"#,
+        r#"["c::sum",{"lifetimes":0,"body":["Seq",{"Call":[{"Fn":["c::low",{}]},[]]},"Return"]}],"#,
+        r#"["c::test",{"lifetimes":0,"body":["Seq",{"Call":[{"Fn":["c::sum",{}]},[]]},"#,
+        r#"{"If":{"Copy":{"local":2,"steps":[]}}},"Return","Skip"]}]]"#
+    );
 
     #[test]
     fn callees_are_reached_and_callers_are_not() {
@@ -77,7 +87,7 @@ mod tests {
     #[test]
     fn a_branch_belongs_to_its_own_function() {
         assert_eq!(branches(MIR, "c::sum"), Ok(vec![]));
-        assert_eq!(branches(MIR, "c::test"), Ok(vec!["if"]));
+        assert_eq!(branches(MIR, "c::test"), Ok(vec!["If"]));
     }
 
     #[test]
@@ -87,9 +97,9 @@ mod tests {
 
     #[test]
     fn a_caller_of_a_part_and_a_reader_are_bypasses() {
-        let part = MIR.replace("(fnRef \"c::sum\")", "(fnRef \"c::low\")");
+        let part = MIR.replace("{\"Fn\":[\"c::sum\"", "{\"Fn\":[\"c::low\"");
         assert_eq!(bypasses(&part, "c::sum"), Ok(vec!["c::test"]));
-        let reader = MIR.replace("(copy (place 1 lnil))", "(copy (place 1 (deref (tyInt 8))))");
+        let reader = MIR.replace("\"steps\":[]", "\"steps\":[{\"Deref\":{\"Int\":8}}]");
         assert_eq!(bypasses(&reader, "c::sum"), Ok(vec!["c::test"]));
         let elsewhere = reader.replace("c::test", "d::test");
         assert_eq!(bypasses(&elsewhere, "c::sum"), Ok(vec![]));

@@ -18,7 +18,7 @@ pub struct Got {
 pub fn read_some<R: Eprint + AllocGlobal, F: Read>(
     rt: &R,
     file: &mut F,
-    name: &str,
+    name: &[u8],
     buffer: &mut [u8],
 ) -> Got
     ensures { result.count ≤ length buffer.old }

@@ -28,7 +28,7 @@ fn refuse_file<R: Print + Eprint + AllocGlobal>(rt: &R, error: u8)
 fn refuse_layouts<R: Print + Eprint + AllocGlobal>(rt: &R, error: u8)
     requires { error ≡ layout_mismatch }
 {
-    report(rt, "old.hex and new.hex: layouts differ");
+    report(rt, b"old.hex and new.hex: layouts differ");
     refuse(rt, error);
 }
 
@@ -62,8 +62,8 @@ fn show<R: Print + Eprint + AllocGlobal>(
 fn main(rt: HostRuntime) {
     let mut old_bytes = [0u8; MAX_IMAGE_LENGTH];
     let mut new_bytes = [0u8; MAX_IMAGE_LENGTH];
-    let old = load(&rt, "old.hex", &mut old_bytes);
-    let new = load(&rt, "new.hex", &mut new_bytes);
+    let old = load(&rt, b"old.hex", &mut old_bytes);
+    let new = load(&rt, b"new.hex", &mut new_bytes);
     if old.error != 0 {
         refuse_file(&rt, old.error);
         return;

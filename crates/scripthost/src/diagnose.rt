@@ -49,7 +49,7 @@ fn count_some<R: Eprint + AllocGlobal, F: Read>(
     lines: u64,
     buffer: &mut [u8],
 ) -> Counted {
-    let got = read_some(rt, file, "script.hex", buffer);
+    let got = read_some(rt, file, b"script.hex", buffer);
     let n = got.count;
     count_lines(state, lines, &buffer[0..n])
 }
@@ -75,7 +75,7 @@ pub(crate) fn diagnose_line<R: Eprint + AllocGlobal, F: Read + Seek>(
     buffer: &mut [u8],
 ) {
     if file.rewind().is_err() {
-        report(rt, "script.hex: no script");
+        report(rt, b"script.hex: no script");
         return;
     }
     let line = good_lines(rt, file, buffer).wrapping_add(1);

@@ -23,7 +23,7 @@ fn refuse_files<R: Print + Eprint + AllocGlobal>(rt: &R, error: u8)
 // error.
 pub fn run_files<R: Files + Print + Eprint + AllocGlobal>(rt: &R, report: u8) {
     let mut bytes = [0u8; MAX_IMAGE_LENGTH];
-    let found = load(rt, "image.hex", &mut bytes);
+    let found = load(rt, b"image.hex", &mut bytes);
     let Some(opened) = open(rt) else {
         refuse_files(rt, MALFORMED);
         return;

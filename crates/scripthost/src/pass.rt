@@ -58,7 +58,7 @@ fn read_behind<R: Eprint + AllocGlobal, F: Read>(
     ensures count_in_bounds { kept + result.count ≤ length buffer.old }
     ensures buffer_unchanged { take kept buffer.new ≡ take kept buffer.old }
 {
-    read_some(rt, file, "script.hex", &mut buffer[kept..])
+    read_some(rt, file, b"script.hex", &mut buffer[kept..])
 }
 
 #[derive(Clone, Copy)]
@@ -215,10 +215,10 @@ pub(crate) fn run_script<R: Print + Eprint + AllocGlobal, F: Read>(
     let mut out = [0u8; CHUNK];
     let ended = turns(rt, file, layout, report, image, &mut buffer, &mut out);
     if ended.held != 0 {
-        hostio::output::report(rt, "script.hex: not run to its end");
+        hostio::output::report(rt, b"script.hex: not run to its end");
         return;
     }
     if ended.read != parsed.count {
-        hostio::output::report(rt, "script.hex: not run as it was parsed");
+        hostio::output::report(rt, b"script.hex: not run as it was parsed");
     }
 }

@@ -28,7 +28,7 @@ pub(crate) fn open<R: Files + Eprint + AllocGlobal>(rt: &R) -> Option<R::File> {
     match File::open(rt, "script.hex") {
         Ok(file) => Some(file),
         Err(error) => {
-            fail(rt, "script.hex", &error);
+            fail(rt, b"script.hex", &error);
             None
         }
     }
@@ -69,7 +69,7 @@ fn parse_some<R: Eprint + AllocGlobal, F: Read>(
 ) -> Turn
     ensures { Fed report state count lines result.state result.count result.lines }
 {
-    let got = read_some(rt, file, "script.hex", buffer);
+    let got = read_some(rt, file, b"script.hex", buffer);
     let n = got.count;
     feed_chunk(report, state, count, lines, &buffer[0..n], got.failed)
 }
@@ -125,11 +125,14 @@ pub(crate) fn parse<R: Eprint + AllocGlobal, F: Read + Seek>(
         return not_parsed(report);
     }
     if too_long(report, turn.lines) {
-        hostio::output::report(rt, "script.hex: no script: more lines than can be numbered");
+        hostio::output::report(
+            rt,
+            b"script.hex: no script: more lines than can be numbered",
+        );
         return not_parsed(report);
     }
     if let Err(error) = file.rewind() {
-        fail(rt, "script.hex", &error);
+        fail(rt, b"script.hex", &error);
         return not_parsed(report);
     }
     let state = turn.state;

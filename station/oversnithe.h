@@ -1,6 +1,6 @@
 /*
  * Oversnithe's functions for C and C++, on x86-64 Linux: link libstation.a, which
- * `rt staticlib station` proves and writes to target/staticlib.
+ * `tools/build station` proves and writes to target/staticlib.
  *
  * Bytes are lent as a pointer and a length.
  *   - The pointer is to `length` bytes that may be read, and written where it is not const, and

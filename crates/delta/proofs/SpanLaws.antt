@@ -49,6 +49,9 @@ module _ (equal : Bool) (xs ys : List ℕ) (i z : ℕ) (l : length xs ≡ length
       pub differing_on : equal ≡ false → i + 1 + span equal (drop (i + 1) xs) (drop (i + 1) ys) ≡ z
       differing_on q = let t = rw (ne_eqb _ _ p, q) at span_turn in rw q (omega arith)
 
+-- what proves `span_end`
+pub ruleset spans = (span_out, equal_end, equal_on, differing_end, differing_on)
+
 -- ---- the runs of a class, by the spans of its bytes
 
 -- equal bytes are passed over

@@ -47,6 +47,9 @@ module _ (line : List ℕ) (n at : ℕ) (k : Bool) (p : k ≡ is_frame line) whe
   unfolding line_error
   refused_line t = rw (← p, t)
 
+-- what proves `line_error`
+pub ruleset line_errors = (refused_full, refused_short, not_refused, refused_line)
+
 module _ (line : List ℕ) (room e : ℕ) (p : e ≡ line_error line room) (q : e ≡ 0) where
   passed : NoneHolds (line_tests line room)
   unfolding line_error

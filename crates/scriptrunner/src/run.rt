@@ -21,6 +21,7 @@ use scriptrules::parser::{MAX_FRAME, READ, SUPPLY};
 use scriptrules::session::Session;
 
 // Why a line is not run, 0 where it is; the buffer has so many bytes.
+#[tactic(auto, using(crate::proofs::LoopLaws::line_errors))]
 fn line_error(line: &[u8], buffer_len: usize, at: usize) -> u8
     ensures { result ≡ line_error line.now (buffer_len - at) }
 {

@@ -26,6 +26,7 @@ fn values<R: Print>(rt: &R) {
 }
 
 // Cases that are a script.
+#[tactic(auto, unfolding(hextext::specs::Hex::digit))]
 fn sessions<R: Print>(rt: &R) {
     session(
         rt,
@@ -149,6 +150,7 @@ fn parameters<R: Print>(rt: &R) {
 }
 
 // Cases of change requests.
+#[tactic(auto, unfolding(hextext::specs::Hex::digit))]
 fn requests<R: Print>(rt: &R) {
     session(
         rt,

@@ -1,5 +1,6 @@
 -- What is claimed of the list of runs between two images, document 02's sentences on C-11.
--- proofs/Laws.antt has a proof of each claim, under its name in small letters.
+-- proofs/Laws.antt has a proof of each claim, under its name in small letters, with `_lem` behind
+-- it where a definition has that name.
 use Rattle.std.specs.Prelude.{ℕ, ◌≤◌, ◌≡◌, ◌↔◌, true, List, [], length}
 use Rattle.flashrules.specs.Choice.{differing}
 use Rattle.flashrules.specs.Layout.{fits}

@@ -1,5 +1,5 @@
 -- What the definitions amount to, claim by claim. proofs/Laws.antt has a proof of each, under its
--- name in small letters.
+-- name in small letters, with `_lem` behind it where a definition has that name.
 use Rattle.std.specs.Prelude.{ℕ, ◌+◌, ◌≤◌, ◌<◌, ◌≡◌, ◌⊎◌, ◌↔◌, Bool, true, false, List, [], ◌++◌, length, get_or, take}
 use Rattle.std.proofs.lemmas.List.Edits.{sets}
 use Rattle.checksum.specs.Checksum.{checksum}

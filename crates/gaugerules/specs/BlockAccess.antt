@@ -2,7 +2,8 @@
 -- and block at 0x3E, bytes at 0x40 on, the checksum at 0x60. Every byte of it is accepted in full
 -- access, and unsealed where the keys stay, on a supply that is not low. Document 01, "The
 -- parameter desk": "a full access gauge .. that loads the block, writes them and commits".
--- proofs/Laws.antt has a proof of each claim, under its name in small letters.
+-- proofs/Laws.antt has a proof of each claim, under its name in small letters, with `_lem` behind
+-- it where a definition has that name.
 use Rattle.std.specs.Prelude.{ℕ, ◌+◌, ◌≤◌, ◌≡◌, ◌⊎◌, true, false, List, [], ◌∷◌, ◌++◌, length, take, drop}
 use Rattle.std.proofs.lemmas.List.Edits.{sets}
 use Rattle.checksum.specs.Checksum.{checksum}

@@ -45,3 +45,6 @@ module _ (text : List ℕ) (byte from to i : ℕ) (inv : from + index_of byte (s
   found_on h k n =
       let e : index_of byte (slice_range text i to) ≡ suc (index_of byte (slice_range text (i + 1) to)) = ap (index_of byte) (more h k) ∙ index_on byte _ _ n in
       omega arith
+
+-- what proves `find`
+pub ruleset finds = (found_past, found_end, found_here, found_on)

@@ -4,6 +4,7 @@ ghost use Rattle.hextext.specs.Scan.{index_of};
 
 // The index of the first `byte` from an index on and before another; where there is none, the index
 // behind the last one that was looked at.
+#[tactic(auto, using(crate::proofs::ScanLaws::finds))]
 pub fn find(text: &[u8], from: usize, to: usize, byte: u8) -> usize
     ensures value { result ≡ from + index_of byte (slice_range text.now from to) }
     ensures within { from ≤ to → result ≤ to }

@@ -1,5 +1,5 @@
 // An image file by its name.
-ghost use Rattle.std.specs.Prelude.{◌≡◌, ◌≤◌, length};
+ghost use Rattle.std.specs.Prelude.{◌≡◌, ◌≤◌, true, length};
 ghost use Rattle.hostio.specs.Loaded.{Loaded};
 
 use crate::input::{Got, read_some};
@@ -39,7 +39,8 @@ fn fill<R: Eprint + AllocGlobal, F: Read>(
 }
 
 fn unread() -> Got
-    ensures { result.count ≡ 0 }
+    ensures count { result.count ≡ 0 }
+    ensures failed { result.failed ≡ true }
 {
     Got {
         count: 0,

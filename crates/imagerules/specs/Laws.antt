@@ -1,5 +1,5 @@
 -- What is claimed of the image file, beyond the definitions. proofs/Laws.antt has a proof of each
--- claim, under its name in small letters.
+-- claim, under its name in small letters, with `_lem` behind it where a definition has that name.
 --
 -- `WrittenRead` and `AcceptedText` together say all that `parse_image` is, by `serialize_image` and
 -- `fits` alone: specs/Candidate.antt need not be believed.

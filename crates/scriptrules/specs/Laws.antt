@@ -1,5 +1,6 @@
 -- What is claimed of scripts and of the replay, beyond the definitions. proofs/Laws.antt has a
--- proof of each claim, under its name in small letters.
+-- proof of each claim, under its name in small letters, with `_lem` behind it where a definition
+-- has that name.
 use Rattle.std.specs.Prelude.{ℕ, ◌+◌, ◌≤◌, ◌<◌, ◌≡◌, ◌↔◌, ◌⊎◌, Bool, true, false, not, List, [], ◌∷◌, ◌++◌, map, length, take, drop}
 use Rattle.std.proofs.lemmas.List.Edits.{sets}
 use Rattle.flashrules.specs.Error.{malformed, short_buffer}

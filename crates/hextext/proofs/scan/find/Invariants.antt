@@ -1,5 +1,5 @@
 -- The invariant: the byte stands where it stands from here on.
-use Rattle.std.proofs.Common.{◌≡◌, ◌+◌, ◌-◌, ◌≤◌}
+use Rattle.std.proofs.Common.{◌≡◌, ◌+◌, ◌-◌, ◌≤◌, length}
 use Rattle.std.specs.Prelude.{slice_range}
 use Rattle.hextext.specs.Scan.{index_of}
 use Rattle.hextext.proofs.scan.find.Given as goal
@@ -10,4 +10,4 @@ invariant-loop-i l =
     × (l.from ≤ l.to → l.i ≤ l.to)
 
 abbrev pub decreases-loop-i : goal.decreases-loop-i
-decreases-loop-i l = l.to - l.i
+decreases-loop-i l = length l.text - l.i

@@ -26,8 +26,8 @@ use Rattle.gaugerules.specs.Transfer.{byte_written, refuse, guard_tests, commit_
 use Rattle.gaugerules.specs.Write.{commit, write_at, write_byte, written, write_bytes, call_tests, call_error, write}
 use Rattle.gaugerules.specs.Laws.{Good, commits, Committed}
 use Rattle.gaugerules.specs.declared.state.Gauge.{Gauge}
-use Rattle.gaugerules.specs.declared.answer.ByteWritten.{ByteWritten}
-use Rattle.gaugerules.specs.declared.answer.Written.{Written}
+use Rattle.gaugerules.specs.Answer.{ByteAnswer}
+use Rattle.gaugerules.specs.Answer.{WriteAnswer}
 use Rattle.gaugerules.proofs.Laws.{refused_byte, only_commit, byte_good, commit_rule, write_changed}
 use Rattle.gaugerules.proofs.RunLaws.{goes_on, stops, called, calls_with}
 use Rattle.causerules.specs.Laws.{ChecksumMatches}
@@ -42,14 +42,14 @@ abbrev guarded : Layout → List ℕ → Gauge → ℕ
 guarded l image g = first_error (guard_tests l image g)
 
 -- one byte more than n is accepted, and commits what gauge g has; or it is refused with that
-abbrev Rights : Layout → List ℕ → ℕ → Gauge → Outcome Written (List ℕ) → Type 0
+abbrev Rights : Layout → List ℕ → ℕ → Gauge → Outcome WriteAnswer (List ℕ) → Type 0
 Rights l image n g v =
     let e = guarded l image g in
     (e ≡ 0 → (v.answer ≡ written 0 (n + 1) v.answer.changed g) × Committed l image g v.lent)
     × ((e ≡ 0 → ⊥) → (v.answer ≡ written e n v.answer.changed g) × (v.lent ≡ image))
 
 -- what is claimed of a run over bs from r on, before which n were accepted
-record Right (l : Layout) (image : List ℕ) (r n : ℕ) (bs : List ℕ) (w : Written) (run : List ℕ → Outcome Written (List ℕ)) : Type 0 where
+record Right (l : Layout) (image : List ℕ) (r n : ℕ) (bs : List ℕ) (w : WriteAnswer) (run : List ℕ → Outcome WriteAnswer (List ℕ)) : Type 0 where
   count : ℕ
   accepted : w.accepted ≡ n + count
   there : r + count ≡ block_data_checksum
@@ -79,7 +79,7 @@ module _ (l : Layout) (image : List ℕ) (g : Gauge) (r n c : ℕ) where
       let free = (no_error (guard_tests l image g) (omega arith, (omega arith, tt))).0 k in
       let all : commits l image g sum ≡ true = rw (m.loaded, m.free, eq-eqb sum sum refl, free.0, free.1.0) in
       let does = (commit_rule l image g sum o.fits o.valid).0 all in
-      let is : t ≡ outcome (byte_written 0 (differing image t.lent) g) t.lent = ap (λ (s : ByteWritten). outcome s t.lent) does.0 in
+      let is : t ≡ outcome (byte_written 0 (differing image t.lent) g) t.lent = ap (λ (s : ByteAnswer). outcome s t.lent) does.0 in
       rw (m.register, goes_on l image g block_data_checksum n c sum [] _ t.lent is refl) (refl, does.1)
 
   right_refused : Mismatched g r → (guarded l image g ≡ 0 → ⊥)
@@ -95,7 +95,7 @@ module _ (l : Layout) (image : List ℕ) (g : Gauge) (r n c : ℕ) where
   right o m = (right_commits o m, right_refused m)
 
   module _ (b : ℕ) (bs : List ℕ) where
-    abbrev s : Outcome ByteWritten (List ℕ)
+    abbrev s : Outcome ByteAnswer (List ℕ)
     s = write_byte l image g r b
 
     -- the byte is refused
@@ -114,7 +114,7 @@ module _ (l : Layout) (image : List ℕ) (g : Gauge) (r n c : ℕ) where
         })
 
     -- a byte before that one leaves the image
-    before : (w : Written) → eqb s.answer.error 0 ≡ true
+    before : (w : WriteAnswer) → eqb s.answer.error 0 ≡ true
         → Right l s.lent (r + 1) (n + 1) bs w (write_bytes l s.lent s.answer.gauge (r + 1) (n + 1) (c + s.answer.changed))
         → Right l image r n (b ∷ bs) w (write_bytes l image g r n c)
     unfolding outcome
@@ -187,5 +187,5 @@ checksum_matches l image g r bytes h o e =
           let none : v.answer.changed ≡ 0 = changed ∙ rw kept.1 (differing_self image) in
           let e = guarded l image w.gauge in
           let is : v.answer ≡ written e w.accepted 0 w.gauge = kept.0 ∙ ap (λ (n : ℕ). written e w.accepted n w.gauge) none in
-          ap (λ (a : Written). outcome a v.lent) is ∙ ap (outcome (written e w.accepted 0 w.gauge)) kept.1,
+          ap (λ (a : WriteAnswer). outcome a v.lent) is ∙ ap (outcome (written e w.accepted 0 w.gauge)) kept.1,
     )

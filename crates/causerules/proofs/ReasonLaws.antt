@@ -27,8 +27,8 @@ use Rattle.gaugerules.specs.Write.{write_at, write_byte, written, write_bytes, c
 use Rattle.gaugerules.specs.Table.{byte_tests, row2, row3, row4, row5, row6, row7, row8, row9, row16, row17}
 use Rattle.gaugerules.specs.declared.state.Gauge.{Gauge}
 use Rattle.gaugerules.specs.declared.register.Register.{Register}
-use Rattle.gaugerules.specs.declared.answer.ByteWritten.{ByteWritten}
-use Rattle.gaugerules.specs.declared.answer.Written.{Written}
+use Rattle.gaugerules.specs.Answer.{ByteAnswer}
+use Rattle.gaugerules.specs.Answer.{WriteAnswer}
 use Rattle.gaugerules.proofs.Laws.{byte_error, refused_byte}
 use Rattle.gaugerules.proofs.ByteCases.{on_class, on_control, on_commit, on_word}
 use Rattle.gaugerules.proofs.RegisterLaws.{on_register}
@@ -88,7 +88,7 @@ module _ (l : Layout) (image : List ℕ) (g : Gauge) (r byte : ℕ) (f : fits l 
       (on_cond (λ (why : Reason). holds_for why g g ≡ true) (general_access g) _ _ (λ _. class) (λ _. refl)) (λ n. n) (λ p. p)
       (λ m. rw (m.loaded, same_refl g.window)) refl refl)
 
-abbrev Holds : Written → Type 0
+abbrev Holds : WriteAnswer → Type 0
 Holds w = holds_for (reason_of w.error w.gauge) w.gauge w.gauge ≡ true
 
 -- a refused byte leaves the gauge that it met
@@ -139,7 +139,7 @@ module _ (met g : Gauge) where
   gone t = absurd (true≢false (sym t))
 
   module _ (l : Layout) (image : List ℕ) (byte : ℕ) where
-    abbrev ToStood : ByteWritten → Type 0
+    abbrev ToStood : ByteAnswer → Type 0
     ToStood s = Stood s.gauge
 
     word_stood : (w : ℕ) → Stood (obey l image g w)
@@ -154,7 +154,7 @@ module _ (met g : Gauge) where
     window_stood Register.DataFlashBlock n = absurd (true≢false n)
     window_stood (Register.BlockData k) n = absurd (true≢false n)
     window_stood Register.BlockDataChecksum n =
-        on_commit (λ (s : Outcome ByteWritten (List ℕ)). ToStood s.answer) l image g byte (λ _ t. t) (λ t. t)
+        on_commit (λ (s : Outcome ByteAnswer (List ℕ)). ToStood s.answer) l image g byte (λ _ t. t) (λ t. t)
     window_stood Register.BlockDataControl n = on_control ToStood g byte (λ t. t) (λ _ _. gone) (λ t. t)
     window_stood Register.Other n = λ t. t
 

@@ -1,3 +1,4 @@
+pub mod Answer
 pub mod History
 pub mod Cause
 pub mod Notes

@@ -10,7 +10,7 @@ use Rattle.causerules.specs.History.{Step, write_steps}
 use Rattle.causerules.specs.Cause.{gives, reason_of, cause_text}
 use Rattle.causerules.specs.declared.reason.Reason.{Reason}
 use Rattle.causerules.specs.declared.notes.Notes.{Notes}
-use Rattle.causerules.specs.declared.notes.Tracked.{Tracked}
+use Rattle.causerules.specs.Answer.{TrackAnswer}
 
 abbrev pub notes : ℕ → ℕ → ℕ → ℕ → ℕ → ℕ → Notes
 notes line sealed unloaded protected class window = record {
@@ -58,19 +58,19 @@ note_all n (s ∷ h) = note_all (note n s) h
 
 -- ---- a write whose bytes are noted, as the line that the notes say
 
-abbrev pub tracked : ℕ → Gauge → Notes → Tracked
+abbrev pub tracked : ℕ → Gauge → Notes → TrackAnswer
 tracked e g n = record { error = e; gauge = g; notes = n }
 
-unfoldable pub track : Layout → List ℕ → Gauge → Notes → ℕ → List ℕ → Outcome Tracked (List ℕ)
+unfoldable pub track : Layout → List ℕ → Gauge → Notes → ℕ → List ℕ → Outcome TrackAnswer (List ℕ)
 track l image g n r bytes =
     let w = write l image g r bytes in
     outcome (tracked w.answer.error w.answer.gauge (note_all n (write_steps l image g n.line r bytes)))
     w.lent
 
 -- a supply call, of which nothing is noted
-unfoldable pub track_supply : Layout → ℕ → Gauge → Notes → ℕ → Tracked
+unfoldable pub track_supply : Layout → ℕ → Gauge → Notes → ℕ → TrackAnswer
 track_supply l size g n millivolts = let s = set_supply l size g millivolts in tracked s.error s.gauge n
 
 -- what is printed of either
-unfoldable pub tracked_text : Tracked → List ℕ
+unfoldable pub tracked_text : TrackAnswer → List ℕ
 tracked_text t = cause_text t.error t.gauge (recall t.notes (reason_of t.error t.gauge))

@@ -1,4 +1,5 @@
 // What is noted of a script's history, so that it need not be kept.
+use flashrules::error::Error;
 use gaugerules::state::Gauge;
 
 // How many lines a script may have, so that four bytes can count them.
@@ -6,6 +7,7 @@ pub const MAX_LINES: u32 = 0xFFFFFFFF;
 
 // The number of the line that is run, from 1 on, and for each reason the line of the latest byte
 // that gave it, 0 where none did.
+// Stays: no Options. Lines count from 1, and what `why` prints of none is 0 (`recall`).
 #[repr(C)]
 #[derive(Clone, Copy)]
 pub struct Notes {
@@ -17,10 +19,11 @@ pub struct Notes {
     pub window: u32,
 }
 
-// After a write whose bytes were noted: its error, the gauge, and what is noted now.
+// After a write whose bytes were noted: why it ended early, if a byte was refused, the gauge, and
+// what is noted now.
 #[derive(Clone, Copy)]
 pub struct Tracked {
-    pub error: u8,
+    pub error: Option<Error>,
     pub gauge: Gauge,
     pub notes: Notes,
 }

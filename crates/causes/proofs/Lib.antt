@@ -1,3 +1,2 @@
-pub mod NoteLaws
 pub mod TrackLaws
 pub mod TextLaws

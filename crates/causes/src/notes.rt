@@ -12,9 +12,8 @@ use causerules::notes::Notes;
 use causerules::reason::Reason;
 use gauge::register::decode;
 use gaugerules::register::Register;
-use gaugerules::state::{Gauge, Loaded, SEALED};
+use gaugerules::state::{Gauge, SEALED};
 use gaugestate::state::loaded;
-use std::num::wrapping_add_u32;
 
 // Before the first line of a script.
 pub fn blank() -> Notes
@@ -31,12 +30,14 @@ pub fn blank() -> Notes
 }
 
 // Of the next line.
+#[tactic(auto, unfolding(causerules::specs::Notes::next_line))]
 pub fn next_line(notes: Notes) -> Notes
     ensures { result ≡ next_line notes }
 {
-    let mut next = notes;
-    next.line = wrapping_add_u32(notes.line, 1);
-    next
+    Notes {
+        line: notes.line.wrapping_add(1),
+        ..notes
+    }
 }
 
 // The line that is noted for a reason.
@@ -57,10 +58,7 @@ pub fn recall(notes: Notes, reason: Reason) -> u32
 fn begins(before: bool, after: bool) -> bool
     ensures { result ≡ and (after ∷ not before ∷ []) }
 {
-    if after {
-        return !before;
-    }
-    false
+    after && !before
 }
 
 fn is_sealed(gauge: Gauge) -> bool
@@ -72,31 +70,21 @@ fn is_sealed(gauge: Gauge) -> bool
 fn none_loaded(gauge: Gauge) -> bool
     ensures { result ≡ none_loaded gauge }
 {
-    let kind = loaded(gauge);
-    match kind {
-        Loaded::None => true,
-        Loaded::Block { class: _, block: _ } => false,
-    }
+    loaded(gauge).is_none()
 }
 
 // Whether a byte that is accepted at a register writes or loads the window.
 fn sets_window(register: usize) -> bool
     ensures { result ≡ sets_at (register_of register) }
 {
-    let kind = decode(register);
-    match kind {
-        Register::ControlLow => false,
-        Register::ControlHigh => false,
-        Register::DataFlashClass => false,
-        Register::DataFlashBlock => true,
-        Register::BlockData(_) => true,
-        Register::BlockDataChecksum => false,
-        Register::BlockDataControl => false,
-        Register::Other => false,
-    }
+    matches!(
+        decode(register),
+        Register::DataFlashBlock | Register::BlockData(_)
+    )
 }
 
 // The line that is run where a byte gives a reason, and else the one that was noted.
+// Stays: a flag, as the rule `noted` goes by a test.
 fn noted(gives: bool, line: u32, before: u32) -> u32
     ensures { result ≡ (if gives then line else before) }
 {
@@ -104,6 +92,7 @@ fn noted(gives: bool, line: u32, before: u32) -> u32
 }
 
 // A byte more, accepted at a register: the gauge before and after it.
+#[tactic(auto, unfolding(causerules::specs::Notes::note))]
 pub fn note(notes: Notes, register: usize, before: Gauge, after: Gauge) -> Notes
     ensures { result ≡ note notes (step notes.line register before after) }
 {

@@ -1,38 +1,25 @@
 // What a refusal goes back to.
 ghost use Rattle.std.specs.Prelude.{◌≡◌};
+ghost use Rattle.flashrules.specs.Error.{number};
 ghost use Rattle.causerules.specs.Cause.{reason_of};
 
 use causerules::reason::Reason;
-use flashrules::error::{
-    NOTHING_LOADED, PROTECTED_BLOCK, SEALED_REGISTER, UNKNOWN_BLOCK, UNKNOWN_CLASS, WRONG_CHECKSUM,
-};
+use flashrules::error::Error;
 use gaugerules::state::Gauge;
 use gaugestate::state::general_access;
 
-// Of an error, with the gauge that the refused byte met.
-pub fn reason_of(error: u8, gauge: Gauge) -> Reason
-    ensures { result ≡ reason_of error gauge }
+// Of a refusal, with the gauge that the refused byte met.
+#[tactic(auto, unfolding(causerules::specs::Cause::reason_of))]
+pub fn reason_of(error: Error, gauge: Gauge) -> Reason
+    ensures { result ≡ reason_of (number error) gauge }
 {
-    if error == SEALED_REGISTER {
-        return Reason::Sealed;
+    match error {
+        Error::SealedRegister => Reason::Sealed,
+        Error::NothingLoaded => Reason::NothingLoaded,
+        Error::ProtectedBlock => Reason::Protected,
+        Error::UnknownClass => Reason::Class,
+        Error::UnknownBlock if general_access(gauge) => Reason::Class,
+        Error::WrongChecksum => Reason::Window,
+        _ => Reason::Itself,
     }
-    if error == NOTHING_LOADED {
-        return Reason::NothingLoaded;
-    }
-    if error == PROTECTED_BLOCK {
-        return Reason::Protected;
-    }
-    if error == UNKNOWN_CLASS {
-        return Reason::Class;
-    }
-    if error == UNKNOWN_BLOCK {
-        if general_access(gauge) {
-            return Reason::Class;
-        }
-        return Reason::Itself;
-    }
-    if error == WRONG_CHECKSUM {
-        return Reason::Window;
-    }
-    Reason::Itself
 }

@@ -1,57 +1,57 @@
 // A write whose bytes are noted, run as `gauge::write::write` runs it, byte by byte; and a supply.
-ghost use Rattle.std.specs.Prelude.{◌≡◌, ◌+◌, ◌≤◌, length};
+// Stays: layout, image and gauge are parameters of their own, as `flashrules::layout` says.
+ghost use Rattle.std.specs.Prelude.{◌≡◌};
 ghost use Rattle.flashrules.specs.Outcome.{outcome};
-ghost use Rattle.gaugerules.specs.Register.{registers};
+ghost use Rattle.causerules.specs.Answer.{track_answer};
 ghost use Rattle.causerules.specs.Notes.{track, track_supply};
 ghost use Rattle.causes.specs.Track.{track_bytes};
 
 use crate::notes::note;
 use causerules::notes::{Notes, Tracked};
 use flashrules::layout::Layout;
-use gauge::write::{call_error, write_byte};
+use gauge::write::{check_call, write_byte};
 use gaugerules::state::Gauge;
 use supply::set_supply;
 
 // The bytes from a register on.
+#[tactic(auto, using(crate::proofs::TrackLaws::turns))]
 fn track_bytes(
     layout: Layout,
     image: &mut [u8],
     gauge: Gauge,
     notes: Notes,
-    register: usize,
+    register: u8,
     bytes: &[u8],
 ) -> Tracked
-    requires { register + length bytes.now ≤ registers }
-    ensures { outcome result image.new ≡ track_bytes layout image.old gauge notes register bytes.now }
+    ensures { outcome (track_answer result) image.new ≡ track_bytes layout image.old gauge notes register bytes.now }
 {
     let mut next = gauge;
     let mut noted = notes;
-    let mut at = register;
-    let mut i = 0;
-    while i < bytes.len() {
-        let byte = write_byte(layout, image, next, at, bytes[i]);
-        let error = byte.error;
-        let after = byte.gauge;
-        if error != 0 {
-            return Tracked {
-                error,
-                gauge: after,
-                notes: noted,
-            };
+    for (i, byte) in bytes.iter().enumerate() {
+        let at = usize::from(register) + i;
+        match write_byte(layout, image, next, at, *byte) {
+            Ok(written) => {
+                noted = note(noted, at, next, written.gauge);
+                next = written.gauge;
+            }
+            Err(error) => {
+                return Tracked {
+                    error: Some(error),
+                    gauge: next,
+                    notes: noted,
+                };
+            }
         }
-        noted = note(noted, at, next, after);
-        next = after;
-        at += 1;
-        i += 1;
     }
     Tracked {
-        error: 0,
+        error: None,
         gauge: next,
         notes: noted,
     }
 }
 
 // Writes bytes at a register and those after it, as the line that the notes say.
+#[tactic(auto, using(crate::proofs::TrackLaws::checked))]
 pub fn track(
     layout: Layout,
     image: &mut [u8],
@@ -60,20 +60,20 @@ pub fn track(
     register: u8,
     bytes: &[u8],
 ) -> Tracked
-    ensures { outcome result image.new ≡ track layout image.old gauge notes register bytes.now }
+    ensures { outcome (track_answer result) image.new ≡ track layout image.old gauge notes register bytes.now }
 {
-    let error = call_error(layout, image.len(), gauge, register, bytes.len());
-    if error == 0 {
-        return track_bytes(layout, image, gauge, notes, register as usize, bytes);
+    if let Err(error) = check_call(layout, image.len(), gauge, register, bytes.len()) {
+        return Tracked {
+            error: Some(error),
+            gauge,
+            notes,
+        };
     }
-    Tracked {
-        error,
-        gauge,
-        notes,
-    }
+    track_bytes(layout, image, gauge, notes, register, bytes)
 }
 
 // Sets the supply, as the line that the notes say. It gives no reason, so nothing is noted.
+#[tactic(auto, unfolding(causerules::specs::Notes::track_supply))]
 pub fn track_supply(
     layout: Layout,
     image_len: usize,
@@ -81,13 +81,18 @@ pub fn track_supply(
     notes: Notes,
     millivolts: u16,
 ) -> Tracked
-    ensures { result ≡ track_supply layout image_len gauge notes millivolts }
+    ensures { track_answer result ≡ track_supply layout image_len gauge notes millivolts }
 {
-    let supplied = set_supply(layout, image_len, gauge, millivolts);
-    let after = supplied.gauge;
-    Tracked {
-        error: supplied.error,
-        gauge: after,
-        notes,
+    match set_supply(layout, image_len, gauge, millivolts) {
+        Ok(supplied) => Tracked {
+            error: None,
+            gauge: supplied,
+            notes,
+        },
+        Err(error) => Tracked {
+            error: Some(error),
+            gauge,
+            notes,
+        },
     }
 }

@@ -1,5 +1,6 @@
 -- Laws of sums and checksums: the loop that adds up bytes, and the short way.
-use Rattle.std.proofs.Common.{◌≡◌, ℕ, zero, suc, ◌+◌, ◌%◌, ◌^◌, ◌<◌, ◌≤◌, List, [], ◌∷◌, ◌++◌, length, get_or, drop, set, replicate, refl, ap, add-one, arith, drop_of_length-le, drop-cons}
+use Rattle.std.proofs.Common.{◌≡◌, ℕ, zero, suc, ◌+◌, ◌%◌, ◌<◌, List, [], ◌∷◌, ◌++◌, length, get_or, set, replicate, refl, arith}
+use Rattle.std.specs.List.{fold}
 use Rattle.checksum.specs.Checksum.{total}
 use Rattle.checksum.specs.Laws.{ShortWay, LongWayModulo, ShortWayModulo}
 
@@ -18,14 +19,14 @@ total_set [] i new h = absurd (omega arith)
 total_set (b ∷ bs) zero new h = omega arith
 total_set (b ∷ bs) (suc i) new h = omega (arith, total_set bs i new (omega arith))
 
--- ---- the loop over the bytes: `e` is its invariant
+-- ---- the sum that wraps, byte by byte
 
-module _ (bs : List ℕ) (sum i : ℕ) (e : (sum + total (drop i bs)) % 256 ≡ total bs % 256) where
-  pub sum_more : (next : ℕ) → next ≡ (sum + get_or bs i 0) % 2 ^ 8 → i < length bs → (next + total (drop (i + 1) bs)) % 256 ≡ total bs % 256
-  sum_more next p h = let q : total (drop i bs) ≡ get_or bs i 0 + total (drop (i + 1) bs) = rw (add-one, drop-cons bs i 0) in omega arith
+wrapped : (sum : ℕ) (bs : List ℕ) → sum < 256 → fold (λ s b. (s + b) % 256) sum bs ≡ (sum + total bs) % 256
+wrapped sum [] h = omega arith
+wrapped sum (b ∷ bs) h = omega (arith, wrapped ((sum + b) % 256) bs (omega arith))
 
-  pub sum_all : sum < 256 → length bs ≤ i → sum ≡ total bs % 256
-  sum_all g h = let q : total (drop i bs) ≡ 0 = ap total (drop_of_length-le bs {i = i} h) in omega arith
+pub low_total : (bs : List ℕ) → fold (λ s b. (s + b) % 256) 0 bs ≡ total bs % 256
+low_total bs = omega (arith, wrapped 0 bs (omega arith))
 
 -- ---- the claims
 

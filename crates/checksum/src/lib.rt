@@ -2,25 +2,18 @@
 // bytes, and the same after one byte has changed. The sum wraps at 256 by intent.
 #![tactic(auto)]
 
-ghost use Rattle.std.specs.Prelude.{◌≡◌, ◌%◌};
-ghost use Rattle.checksum.specs.Checksum.{total, checksum, checksum_after};
-
-use std::num::{wrapping_add_u8, wrapping_sub_u8};
+ghost use Rattle.std.specs.Prelude.{◌≡◌, ◌+◌, ◌%◌, fold};
+ghost use Rattle.checksum.specs.Checksum.{checksum, checksum_after};
 
 // The low eight bits of the sum.
 fn low_sum(bytes: &[u8]) -> u8
-    ensures { result ≡ total bytes.now % 256 }
+    ensures { result ≡ fold (λ sum byte. (sum + byte) % 256) 0 bytes.now }
 {
-    let mut sum: u8 = 0;
-    let mut i = 0;
-    while i < bytes.len() {
-        sum = wrapping_add_u8(sum, bytes[i]);
-        i += 1;
-    }
-    sum
+    bytes.iter().fold(0u8, |sum, byte| sum.wrapping_add(*byte))
 }
 
 // The long way, over any number of bytes.
+#[tactic(auto, using(crate::proofs::ChecksumLaws::low_total))]
 pub fn checksum(bytes: &[u8]) -> u8
     ensures { result ≡ checksum bytes.now }
 {
@@ -31,6 +24,6 @@ pub fn checksum(bytes: &[u8]) -> u8
 pub fn checksum_after(sum: u8, old: u8, new: u8) -> u8
     ensures { result ≡ checksum_after sum old new }
 {
-    let rest = wrapping_sub_u8(255 - sum, old);
-    255 - wrapping_add_u8(rest, new)
+    let rest = (255 - sum).wrapping_sub(old);
+    255 - rest.wrapping_add(new)
 }

@@ -1,39 +1,25 @@
 -- Laws of control words: records put together with what calls gave, and the key in the image.
-use Prim.Native.Nat.{ℕ, suc, ◌+◌, ◌-◌, ◌/◌, ◌%◌, ◌≤◌, ◌<◌, min}
-use mathlib.Core.Path.{◌≡◌, sym, ap}
-use mathlib.Core.Bool.{Bool, true, false, not, cond}
+use Prim.Native.Nat.{ℕ, suc, ◌+◌, ◌-◌, ◌≤◌, ◌<◌, min}
+use mathlib.Core.Path.{◌≡◌, refl, sym, ap}
+use mathlib.Core.Bool.{false, cond}
 use mathlib.Core.List.{List, [], ◌∷◌}
 use native.Mathlib.Numerals.{add-one}
 use native.Mathlib.Omega.{arith}
 use lib.Dec.{eqb}
 use lib.ListN.{length, get_or, take, drop, length-take, length-drop}
 use lib.Seq.{drop-cons}
-use mir.Val.{bool_byte}
 use borrow.Author.Tests.{ne_eqb}
 use Rattle.flashrules.specs.Choice.{differing}
-use Rattle.flashrules.specs.Layout.{key_class}
-use Rattle.flashrules.specs.Image.{block_bytes}
 use Rattle.flashrules.specs.declared.layout.Layout.{Layout}
 use Rattle.flashrules.proofs.Laws.{differing_none}
-use Rattle.dataflash.proofs.CountLaws.{differ_is}
-use Rattle.gaugerules.specs.State.{full_access, no_word, with_mode, with_pending, with_result}
+use Rattle.gaugerules.specs.State.{no_word, is_full_access, none_pending}
 use Rattle.gaugerules.specs.Keys.{key_length, as_sent, keys, is_key}
-use Rattle.gaugerules.specs.Word.{word, status, key_wanted, mode_opened, waits, opened, key_word, with_status, obey}
+use Rattle.gaugerules.specs.Word.{key_wanted, waits, opened, key_word}
 use Rattle.gaugerules.specs.declared.state.Gauge.{Gauge}
 
-pub opens_by : (g r : Gauge) (m : ℕ) → r ≡ waits g no_word → m ≡ mode_opened g → with_mode r m ≡ opened g
-opens_by g r m q p = rw (q, p)
+-- ---- the key's four bytes
 
-pub status_by : (g : Gauge) (n : ℕ) → n ≡ status g → with_result (with_pending g no_word) n ≡ with_status g
-status_by g n p = rw p
-
--- ---- the key's four bytes: one, then all
-
--- where `x` is the byte, widened
-pub differs_is : (x y sent : ℕ) → x ≡ y → bool_byte (not (eqb x sent)) ≡ cond (eqb y sent) 0 1
-differs_is x y sent e = rw e (differ_is (eqb y sent))
-
-four : (bs : List ℕ) (at : ℕ) → at + key_length ≤ length bs
+pub four : (bs : List ℕ) (at : ℕ) → at + key_length ≤ length bs
     → take key_length (drop at bs) ≡ get_or bs at 0 ∷ get_or bs (at + 1) 0 ∷ get_or bs (at + 2) 0 ∷ get_or bs (at + 3) 0 ∷ []
 four bs at h =
     let h0 : at < length bs = omega arith in
@@ -58,32 +44,16 @@ module _ (bs : List ℕ) (at u w : ℕ) where
       let n : length (take key_length (drop at bs)) ≡ min key_length (length bs - at) = simp (length-take, length-drop) in
       omega arith))
 
-  -- the four together
-  pub sum_is :
-      (a b c d : ℕ) → at + key_length ≤ length bs → a ≡ cond (eqb (get_or bs at 0) (u % 256)) 0 1 → b ≡ cond (eqb (get_or bs (at + 1) 0) (u / 256)) 0 1
-      → c ≡ cond (eqb (get_or bs (at + 2) 0) (w % 256)) 0 1 → d ≡ cond (eqb (get_or bs (at + 3) 0) (w / 256)) 0 1
-      → a + b + c + d ≡ differing (take key_length (drop at bs)) (as_sent u w)
-  sum_is a b c d h e₀ e₁ e₂ e₃ = rw (four bs at h, ← e₀, ← e₁, ← e₂, ← e₃) (omega arith)
-
   -- the key is equal exactly at 0
   pub key_at_zero : (n : ℕ) → n ≡ differing (take key_length (drop at bs)) (as_sent u w) → eqb n 0 ≡ is_key bs at u w
   unfolding is_key
   key_at_zero n e = rw e
 
--- the key in the image: `bs` is the block that a call handed out, `at` where the key begins
-module _ (l : Layout) (image bs : List ℕ) (g : Gauge) (at : ℕ) (p : bs ≡ block_bytes l image key_class 0) (q : at ≡ key_wanted g) where
-  module _ (t : Bool) (w : ℕ) (r : Gauge) (e : t ≡ is_key bs at g.pending w) (h₁ : g.mode ≡ full_access → ⊥) (h₂ : g.pending ≡ no_word → ⊥) where
-    asked : is_key (keys l image) (key_wanted g) g.pending w ≡ t
-    asked = sym (rw (p, q) at e)
+pub ruleset keys_are = (key_short, key_at_zero)
 
-    pub key_opens : t ≡ true → r ≡ opened g → r ≡ key_word l image g w
-    unfolding key_word
-    key_opens u x = rw (ne_eqb _ _ h₁, ne_eqb _ _ h₂, asked, u) x
-
-    pub key_waits : t ≡ false → r ≡ waits g w → r ≡ key_word l image g w
-    unfolding key_word
-    key_waits u x = rw (ne_eqb _ _ h₁, ne_eqb _ _ h₂, asked, u) x
-
-pub obeys_word : (l : Layout) (image : List ℕ) (g r : Gauge) (byte n : ℕ) → n ≡ word g.low byte → r ≡ obey l image g n
-    → r ≡ obey l image g (word g.low byte)
-obeys_word l image g r byte n p e = rw p at e
+-- the key in the image
+pub key_word_is : (l : Layout) (image : List ℕ) (g : Gauge) (w : ℕ) → key_word l image g w
+    ≡ cond (is_full_access g) (waits g no_word)
+    (cond (none_pending g) (waits g w) (cond (is_key (keys l image) (key_wanted g) g.pending w) (opened g) (waits g w)))
+unfolding key_word
+key_word_is l image g w = refl

@@ -1,18 +1,14 @@
 -- Laws of the functions that put the text of the runs: one line out of its parts, and the loops
 -- over the runs of a class and over the classes.
-use Prim.Native.Nat.{ℕ, ◌+◌, ◌-◌, ◌*◌, ◌/◌, ◌%◌, ◌≤◌, ◌<◌}
-use mathlib.Core.Path.{◌≡◌, refl, ap, ◌∙◌}
-use mathlib.Core.Bool.{true, false}
-use mathlib.Core.List.{List, [], ◌∷◌, ◌++◌}
-use native.Mathlib.Omega.{arith}
-use lib.ListN.{length, take, drop, get_or, length-append, length-take, length-drop, drop_of_length-le}
-use lib.Seq.{sets, drop-drop}
+use Rattle.std.proofs.Common.{ℕ, ◌+◌, ◌-◌, ◌*◌, ◌/◌, ◌%◌, ◌≤◌, ◌<◌, ◌≡◌, refl, ap, ◌∙◌, true, false, List, [], ◌∷◌, ◌++◌, arith, length, take, drop, length-append, length-take-le, length-drop, drop_of_length-le, drop-drop}
+use Rattle.std.proofs.lemmas.List.Edits.{sets}
 use Rattle.hextext.specs.Hex.{hex, hex_line}
 use Rattle.hextext.proofs.StoreLaws.{sets_on}
 use Rattle.hextext.proofs.Laws.{hex_length}
-use Rattle.flashrules.specs.Layout.{max_classes, max_image_length, classes, size_of, fits}
+use Rattle.flashrules.specs.Layout.{Class, max_image_length, classes, size_of, fits}
 use Rattle.flashrules.specs.declared.layout.Layout.{Layout}
-use Rattle.flashrules.proofs.LayoutLaws.{Whole, classes_next, classes_end, valid_parts, fits_parts}
+use Rattle.flashrules.proofs.LayoutLaws.{valid_parts, fits_parts}
+use Rattle.layout.proofs.EntryLaws.{left_next}
 use Rattle.deltarules.specs.Run.{run, class_runs, image_runs, runs}
 use Rattle.deltarules.specs.Text.{run_line, serialize_runs}
 use Rattle.deltarules.proofs.TextLaws.{run_parts, run_length, byte_most, text_append}
@@ -95,105 +91,82 @@ module _ (i at₀ : ℕ) (old new r₀ : List ℕ) (from at : ℕ) (r : List ℕ
         let n : to - from ≡ d = omega arith in
         rw (n, p, ← drop-drop d from old, ← drop-drop d from new) (ap serialize_runs (runs_run i from (drop from old) (drop from new) (v.apart h)))
 
-    pub run_next : (r' : List ℕ) (at' from' : ℕ) → length r' ≡ length r
-        → r' ≡ sets r at (run_line (run i from (take (to - from) (drop from old)) (take (to - from) (drop from new))))
-        → at' ≡ at + (7 + 4 * length (take (to - from) (drop from old))) → from' ≡ to + span true (drop to old) (drop to new)
-        → from' ≤ length old → RunAt i at₀ old new r₀ from' at' r'
-    run_next r' at' from' q e a p' g =
-        let x = run i from (take (to - from) (drop from old)) (take (to - from) (drop from new)) in
-        let m : length (take (to - from) (drop from new)) ≡ length (take (to - from) (drop from old)) = rw (length-take, length-take, length-drop, length-drop, v.both) in
-        let t : at' ≡ at + length (run_line x) = a ∙ rw (run_length x, m) (omega arith) in
-        let s = skip_text old new to from' p' i in
-        record {
-          both = v.both;
-          inside = g;
-          apart = skip_next old new to from' p' v.both;
-          place = (let u = length-append (run_line x) (text_from i to old new) in rw s (omega (arith, rw next_text at v.place)));
-          long = q ∙ v.long;
-          same = rw s (sets_on r r' at at' (run_line x) (text_from i to old new) e t ∙ rw next_text at v.same);
-        }
+    module _ (part part' : List ℕ) (q : part ≡ take (to - from) (drop from old)) (q' : part' ≡ take (to - from) (drop from new)) where
+      part_text : text_from i from old new ≡ run_line (run i from part part') ++ text_from i to old new
+      part_text = rw (q, q') next_text
+
+      pub run_next : (r' : List ℕ) (at' from' : ℕ) → length part ≡ length part' → length r' ≡ length r → r' ≡ sets r at (run_line (run i from part part'))
+          → at' ≡ at + (7 + 4 * length part) → from' ≡ to + span true (drop to old) (drop to new) → from' ≤ length old
+          → RunAt i at₀ old new r₀ from' at' r'
+      run_next r' at' from' m k e a p' g =
+          let x = run i from part part' in
+          let t : at' ≡ at + length (run_line x) = a ∙ rw (run_length x, ← m) (omega arith) in
+          let s = skip_text old new to from' p' i in
+          record {
+            both = v.both;
+            inside = g;
+            apart = skip_next old new to from' p' v.both;
+            place = (let u = length-append (run_line x) (text_from i to old new) in rw s (omega (arith, rw part_text at v.place)));
+            long = k ∙ v.long;
+            same = rw s (sets_on r r' at at' (run_line x) (text_from i to old new) e t ∙ rw part_text at v.same);
+          }
+
+-- what proves `put_class`
+pub ruleset class_runs_put = (run_start, run_room, run_less, run_next, run_end, run_most, run_text)
 
 -- ---- the classes of an image
 
--- the same at class k, whose bytes begin at `from` of the images and whose lines go to `at` of the
--- buffer
-pub record ClassAt (l : Layout) (old new r₀ : List ℕ) (k from at : ℕ) (r : List ℕ) : Type 0 where
-  pub whole : Whole l
-  pub both : length old ≡ length new
-  pub small : length old ≤ max_image_length
-  pub left : from + size_of (drop k (classes l)) ≡ length old
-  pub room : at ≤ 11 * from
-  pub place : at + length (serialize_runs (image_runs (drop k (classes l)) (drop from old) (drop from new))) ≡ length (serialize_runs (runs l old new))
+-- what holds at the head of the loop: these classes are left, and these bytes of the two images,
+-- and their lines go to `at` of the buffer
+pub record ClassAt (l : Layout) (old new r₀ : List ℕ) (cs : List Class) (left left' : List ℕ) (at : ℕ) (r : List ℕ) : Type 0 where
+  pub size : size_of cs ≡ length left
+  pub room : at + 11 * length left ≤ 11 * max_image_length
+  pub place : at + length (serialize_runs (image_runs cs left left')) ≡ length (serialize_runs (runs l old new))
   pub long : length r ≡ length r₀
-  pub same : sets r at (serialize_runs (image_runs (drop k (classes l)) (drop from old) (drop from new))) ≡ sets r₀ 0 (serialize_runs (runs l old new))
+  pub same : sets r at (serialize_runs (image_runs cs left left')) ≡ sets r₀ 0 (serialize_runs (runs l old new))
 
-pub class_start : (l : Layout) (old new r : List ℕ) → length l.ids ≡ max_classes → length l.lengths ≡ max_classes
-    → fits l (length old) ≡ true → length old ≡ length new → ClassAt l old new r 0 0 0 r
+pub class_start : (l : Layout) (old new r : List ℕ) (cs : List Class) → cs ≡ classes l → fits l (length old) ≡ true
+    → ClassAt l old new r cs old new 0 r
 unfolding runs
-class_start l old new r hi hn f b =
+class_start l old new r cs e f =
     let p = fits_parts l (length old) f in
     let v = valid_parts l p.0 in
-    record {
-      whole = record { ids = hi; lengths = hn; used = v.used };
-      both = b;
-      small = omega (arith, p.1, v.small);
-      left = omega (arith, p.1);
-      room = omega arith;
-      place = omega arith;
-      long = refl;
-      same = refl;
-    }
+    rw e
+    record { size = omega (arith, p.1); room = omega (arith, p.1, v.small); place = omega arith; long = refl; same = refl }
 
-module _ (l : Layout) (old new r₀ : List ℕ) (k from at : ℕ) (r : List ℕ) (v : ClassAt l old new r₀ k from at r) where
-  module _ (h : l.count ≤ k) where
+module _ (l : Layout) (old new r₀ : List ℕ) (cs : List Class) (left left' : List ℕ) (at : ℕ) (r : List ℕ) (v : ClassAt l old new r₀ cs left left' at r) where
+  module _ (e : cs ≡ []) where
     pub class_end : at ≡ length (serialize_runs (runs l old new))
-    class_end = let g = rw (classes_end l k v.whole h) at v.place in omega arith
+    class_end = let g = rw e at v.place in omega arith
 
     pub class_text_lem : r ≡ sets r₀ 0 (serialize_runs (runs l old new))
-    class_text_lem = rw (classes_end l k v.whole h) at v.same
+    class_text_lem = rw e at v.same
 
-  -- any bytes from here on
-  module _ (m : ℕ) where
-    part_most : from + length (take m (drop from old)) ≤ length old
-    part_most = rw (length-take, length-drop) (omega (arith, v.left))
+  module _ (c : Class) (cs' : List Class) (e : cs ≡ c ∷ cs') where
+    pub part_inside : c.len ≤ length left
+    part_inside = let g = rw e at v.size in omega arith
 
-    pub part_short : length (take m (drop from old)) ≤ max_image_length
-    part_short = omega (arith, part_most, v.small)
+    module _ (part part' rest rest' : List ℕ) (p : part ≡ take c.len left) (p' : part' ≡ take c.len left') (q : rest ≡ drop c.len left) (q' : rest' ≡ drop c.len left') where
+      lp : length part ≡ c.len
+      lp = rw p (length-take-le c.len left part_inside)
 
-    pub part_room : at + 11 * length (take m (drop from old)) ≤ 11 * max_image_length
-    part_room = omega (arith, part_most, v.room, v.small)
+      lq : length rest + c.len ≡ length left
+      lq = rw (q, length-drop) (omega (arith, part_inside))
 
-  -- those of the class
-  module _ (h : k < l.count) (n : ℕ) (p : n ≡ get_or l.lengths k 0) where
-    next : drop k (classes l) ≡ record { id = get_or l.ids k 0; len = get_or l.lengths k 0 } ∷ drop (k + 1) (classes l)
-    next = classes_next l k v.whole h
+      pub class_next : (r' : List ℕ) (at' : ℕ) → length r' ≡ length r → r' ≡ sets r at (serialize_runs (class_runs c.id 0 part part'))
+          → at' ≡ at + length (serialize_runs (class_runs c.id 0 part part')) → at' ≤ at + 11 * length part
+          → ClassAt l old new r₀ cs' rest rest' at' r'
+      class_next r' at' k g a m =
+          let x = class_runs c.id 0 part part' in
+          let y = image_runs cs' rest rest' in
+          let t : serialize_runs (image_runs cs left left') ≡ serialize_runs x ++ serialize_runs y = rw (e, p, p', q, q', text_append) in
+          record {
+            size = (let z = rw e at v.size in omega (arith, lq));
+            room = omega (arith, lp, lq, v.room);
+            place = (let u = length-append (serialize_runs x) (serialize_runs y) in omega (arith, rw t at v.place));
+            long = k ∙ v.long;
+            same = sets_on r r' at at' (serialize_runs x) (serialize_runs y) g a ∙ rw t at v.same;
+          }
 
-    pub part_inside : from + n ≤ length old
-    part_inside = let g = rw (next, ← p) at v.left in omega arith
-
-    pub part_inside_new : from + n ≤ length new
-    part_inside_new = rw v.both at part_inside
-
-    part_length : length (take (from + n - from) (drop from old)) ≡ n
-    part_length = rw (length-take, length-drop) (omega (arith, part_inside))
-
-    pub class_next : (r' : List ℕ) (at' : ℕ) → length r' ≡ length r
-        → r' ≡ sets r at (serialize_runs (class_runs (get_or l.ids k 0) 0 (take (from + n - from) (drop from old)) (take (from + n - from) (drop from new))))
-        → at' ≡ at + length (serialize_runs (class_runs (get_or l.ids k 0) 0 (take (from + n - from) (drop from old)) (take (from + n - from) (drop from new))))
-        → at' ≤ at + 11 * length (take (from + n - from) (drop from old)) → ClassAt l old new r₀ (k + 1) (from + n) at' r'
-    class_next r' at' q e a m =
-        let o : from + n - from ≡ n = omega arith in
-        let x = class_runs (get_or l.ids k 0) 0 (take (from + n - from) (drop from old)) (take (from + n - from) (drop from new)) in
-        let y = image_runs (drop (k + 1) (classes l)) (drop (from + n) old) (drop (from + n) new) in
-        let t : serialize_runs (image_runs (drop k (classes l)) (drop from old) (drop from new)) ≡ serialize_runs x ++ serialize_runs y =
-        rw (next, ← p, o, ← drop-drop n from old, ← drop-drop n from new, text_append) in
-        record {
-          whole = v.whole;
-          both = v.both;
-          small = v.small;
-          left = (let g = rw next at v.left in omega arith);
-          room = omega (arith, part_length, v.room);
-          place = (let u = length-append (serialize_runs x) (serialize_runs y) in omega (arith, rw t at v.place));
-          long = q ∙ v.long;
-          same = sets_on r r' at at' (serialize_runs x) (serialize_runs y) e a ∙ rw t at v.same;
-        }
+-- what proves that a class can be put
+pub ruleset parts = (part_inside, left_next)

@@ -11,12 +11,11 @@ use lib.Dec.{eqb}
 use lib.ListN.{length, get_or, take, drop}
 use lib.Seq.{drop-drop}
 use borrow.Author.Tests.{eq-eqb, ne_eqb, eqb-true, eqb-false, leb-true}
-use Rattle.flashrules.specs.Answer.{length_of}
+use Rattle.flashrules.specs.Answer.{Lookup, found, length_of}
 use Rattle.flashrules.specs.Layout.{Class, classes, size_of, locate, in_order, ordered, fits}
 use Rattle.flashrules.specs.Lookup.{find_class}
 use Rattle.flashrules.specs.Image.{part_of}
 use Rattle.flashrules.specs.declared.layout.Layout.{Layout}
-use Rattle.flashrules.specs.declared.lookup.Lookup.{Lookup}
 use Rattle.flashrules.proofs.Picks.{on_test, and_first, and_rest}
 use Rattle.flashrules.proofs.LayoutLaws.{valid_parts, fits_parts}
 use Rattle.flashrules.proofs.PartLaws.{part_length}
@@ -100,7 +99,7 @@ module _ (old new : List ℕ) (l : length old ≡ length new) where
     before : (k : ℕ) → k + 1 ≡ r.offset → byte_of old a k ≡ byte_of new a k
     behind : let k = r.offset + length r.old in byte_of old a k ≡ byte_of new a k
 
-  run_at : (at n : ℕ) (r : Run) → at + n ≤ length old → RunIn (take n (drop at old)) (take n (drop at new)) 0 r → RunAt (Lookup.Found at n) r
+  run_at : (at n : ℕ) (r : Run) → at + n ≤ length old → RunIn (take n (drop at old)) (take n (drop at new)) 0 r → RunAt (found at n) r
   run_at at n r h e = record {
     some = e.some;
     inside = omega (arith, e.inside, part_length old at n h);

@@ -6,12 +6,12 @@ use native.Mathlib.Omega.{arith}
 use lib.Dec.{eqb}
 use lib.ListN.{length, take, drop}
 use borrow.Author.Tests.{eqb-true}
-use Rattle.flashrules.specs.Error.{unknown_class}
+use Rattle.flashrules.specs.Answer.{found}
+use Rattle.flashrules.specs.declared.error.Error.{Error}
 use Rattle.flashrules.specs.Layout.{paired, classes, locate}
 use Rattle.flashrules.specs.Lookup.{find_class}
 use Rattle.flashrules.specs.Image.{max_byte, Bytes}
 use Rattle.flashrules.specs.declared.layout.Layout.{Layout}
-use Rattle.flashrules.specs.declared.lookup.Lookup.{Lookup}
 use Rattle.flashrules.proofs.Picks.{on_test, on_answer}
 use Rattle.flashrules.proofs.BytesLaws.{bytes_take, bytes_drop}
 use Rattle.flashrules.proofs.LayoutLaws.{valid_parts, fits_parts}
@@ -24,16 +24,16 @@ use Rattle.deltarules.proofs.EachLaws.{each_map}
 use Rattle.deltarules.proofs.ImageLaws.{class_found, runs_delta}
 
 -- a class that is found has an identifier of the layout
-found_byte : (n at i s k : ℕ) (is ns : List ℕ) → Bytes is → locate at (take n (paired is ns)) i ≡ Lookup.Found s k → i ≤ max_byte
-found_byte zero at i s k is ns h p = absurd (refused_found unknown_class s k p)
-found_byte (suc n) at i s k [] ns h p = absurd (refused_found unknown_class s k p)
-found_byte (suc n) at i s k (j ∷ is) [] h p = absurd (refused_found unknown_class s k p)
+found_byte : (n at i s k : ℕ) (is ns : List ℕ) → Bytes is → locate at (take n (paired is ns)) i ≡ found s k → i ≤ max_byte
+found_byte zero at i s k is ns h p = absurd (refused_found Error.UnknownClass s k p)
+found_byte (suc n) at i s k [] ns h p = absurd (refused_found Error.UnknownClass s k p)
+found_byte (suc n) at i s k (j ∷ is) [] h p = absurd (refused_found Error.UnknownClass s k p)
 found_byte (suc n) at i s k (j ∷ is) (m ∷ ns) h p =
     on_test (eqb j i) (λ t. omega (arith, eqb-true j i t, h 0)) (λ t. found_byte n (at + m) i s k is ns (λ q. h (suc q)) (rw t at p))
 
 module _ (l : Layout) (old new : List ℕ) (p : Pair l old new) (ids : Bytes l.ids) (hold : Bytes old) (hnew : Bytes new) where
   -- its class was found at s, with k bytes
-  writable_at : (r : Run) (s k : ℕ) → find_class l r.class ≡ Lookup.Found s k → RunOf l old new r → Writable r
+  writable_at : (r : Run) (s k : ℕ) → find_class l r.class ≡ found s k → RunOf l old new r → Writable r
   unfolding classes
   writable_at r s k q e =
       let found = sym (class_found l (length old) r.class p.first) ∙ q in

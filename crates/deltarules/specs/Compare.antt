@@ -7,7 +7,7 @@ use Rattle.flashrules.specs.Outcome.{Outcome, outcome}
 use Rattle.flashrules.specs.Layout.{fits, same_layout}
 use Rattle.flashrules.specs.declared.layout.Layout.{Layout}
 use Rattle.imagerules.specs.File.{not_written, write_text}
-use Rattle.imagerules.specs.declared.answer.FileWritten.{FileWritten}
+use Rattle.imagerules.specs.Answer.{FileWriteAnswer}
 use Rattle.deltarules.specs.Run.{runs}
 use Rattle.deltarules.specs.Text.{serialize_runs}
 
@@ -19,7 +19,7 @@ pair_tests l n l' n' =
 unfoldable pub pair_error : Layout → ℕ → Layout → ℕ → ℕ
 pair_error l n l' n' = first_error (pair_tests l n l' n')
 
-unfoldable pub compare : Layout → List ℕ → Layout → List ℕ → List ℕ → Outcome FileWritten (List ℕ)
+unfoldable pub compare : Layout → List ℕ → Layout → List ℕ → List ℕ → Outcome FileWriteAnswer (List ℕ)
 compare l old l' new buffer =
     let e = pair_error l (length old) l' (length new) in
     cond (eqb e 0) (write_text (serialize_runs (runs l old new)) buffer) (outcome (not_written e) buffer)

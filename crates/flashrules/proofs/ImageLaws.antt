@@ -4,35 +4,25 @@ use Prim.Native.Nat.{ℕ, ◌+◌, ◌-◌, ◌≤◌, ◌<◌}
 use mathlib.Core.Path.{◌≡◌, sym, ap, ◌∙◌}
 use mathlib.Core.List.{List, [], ◌++◌}
 use native.Mathlib.Nat.{add-sub_cancel_left}
-use native.Mathlib.Numerals.{add-one}
 use native.Mathlib.Omega.{arith}
 use lib.Dec.{ltb}
-use lib.ListN.{length, take, drop, get_or, set, replicate, length-append, length-replicate}
-use lib.Seq.{paste, paste-suc, sets, length-paste, length-take-le, take_at}
+use lib.ListN.{length, take, drop, get_or, replicate, length-append, length-replicate}
+use lib.Seq.{paste, sets, length-paste, length-take-le, take_at}
 use borrow.Author.Tests.{ltb-true, ltb-false}
 use Rattle.checksum.proofs.ChecksumLaws.{total_append, total_zeros}
 use Rattle.flashrules.specs.Choice.{differing}
-use Rattle.flashrules.specs.Answer.{length_of}
+use Rattle.flashrules.specs.Error.{number}
+use Rattle.flashrules.specs.Answer.{found, refused, length_of}
 use Rattle.flashrules.specs.Lookup.{block_size, find_block}
 use Rattle.flashrules.specs.Image.{block_bytes, as_loaded, store_block}
 use Rattle.flashrules.specs.Laws.{ChecksumLoaded, BlockLength, BlockEmpty, LoadedLength, StoreLength, StoreHere, Within, StoreOutside, StoreElsewhere, StoreDiffering, StoreMost, StoreEdited}
 use Rattle.flashrules.specs.declared.layout.Layout.{Layout}
-use Rattle.flashrules.specs.declared.lookup.Lookup.{Lookup}
+use Rattle.flashrules.specs.declared.error.Error.{Error}
 use Rattle.flashrules.proofs.Picks.{on_test, on_answer}
 use Rattle.flashrules.proofs.DifferingLaws.{differing_self, differing_most, differing_paste}
 use Rattle.flashrules.proofs.PartLaws.{part_length, part_paste, paste_below, paste_above, part_apart, paste_sets, paste_self}
-use Rattle.flashrules.proofs.LookupLaws.{block_inside, blocks_apart, refused_number}
-
--- the loop that copies a window into an image: `e` is its invariant
-module _ (f f₀ w : List ℕ) (at k n : ℕ) (lw : length w ≡ block_size) (most : n ≤ block_size) (end : at + n ≤ length f₀) (e : f ≡ paste f₀ at w k) where
-  pub copy_more : k < n → set f (at + k) (get_or w k 0) ≡ paste f₀ at w (k + 1)
-  copy_more h =
-      let hf : at + k < length f₀ = omega arith in
-      let hw : k < length w = omega arith in
-      rw (e, add-one, paste-suc)
-
-  pub copy_all : k ≤ n → n ≤ k → f ≡ paste f₀ at w n
-  copy_all h g = let q : k ≡ n = omega arith in rw q at e
+use Rattle.flashrules.proofs.LookupLaws.{block_inside, blocks_apart}
+use Rattle.flashrules.proofs.ErrorLaws.{number_some}
 
 -- the part that `&image[s..s + k]` is
 pub part_is : (f : List ℕ) (s k : ℕ) → take (s + k - s) (drop s f) ≡ take k (drop s f)
@@ -52,7 +42,7 @@ block_most l image i b =
     (λ s k p. let h = block_inside l (length image) i b s k p in rw p (omega (arith, h.most, part_length image s k h.end)))
     (λ e p. rw p (omega arith))
 
-refused_empty : (l : Layout) (image : List ℕ) (i b k : ℕ) → find_block l (length image) i b ≡ Lookup.Refused k → block_bytes l image i b ≡ []
+refused_empty : (l : Layout) (image : List ℕ) (i b : ℕ) (k : Error) → find_block l (length image) i b ≡ refused k → block_bytes l image i b ≡ []
 unfolding block_bytes
 refused_empty l image i b k q = rw q
 
@@ -62,7 +52,7 @@ block_empty l image i b = (
       let n : length_of (find_block l (length image) i b) ≡ 0 = sym (block_length l image i b) ∙ rw p in
       on_answer (find_block l (length image) i b)
       (λ s k q. let z : k ≡ 0 = rw q at n in omega (arith, (block_inside l (length image) i b s k q).some))
-      (λ k q. let z : k ≡ 0 = rw q at e in omega (arith, refused_number l (length image) i b k q))),
+      (λ k q. let z : number k ≡ 0 = rw q at e in omega (arith, number_some k))),
   (λ h. on_answer (find_block l (length image) i b) (λ s k q. absurd (h (rw q))) (refused_empty l image i b)),
 )
 
@@ -85,15 +75,15 @@ checksum_loaded bs = simp (total_append, total_zeros) (omega arith)
 
 -- a store into block b of class i, of a lookup that found it, and of one that was refused
 module _ (l : Layout) (image : List ℕ) (i b : ℕ) (w : List ℕ) (lw : length w ≡ block_size) where
-  stored : (s k : ℕ) → find_block l (length image) i b ≡ Lookup.Found s k → store_block l image i b w ≡ paste image s w k
+  stored : (s k : ℕ) → find_block l (length image) i b ≡ found s k → store_block l image i b w ≡ paste image s w k
   unfolding store_block
   stored s k p = rw p
 
-  not_stored : (e : ℕ) → find_block l (length image) i b ≡ Lookup.Refused e → store_block l image i b w ≡ image
+  not_stored : (e : Error) → find_block l (length image) i b ≡ refused e → store_block l image i b w ≡ image
   unfolding store_block
   not_stored e p = rw p
 
-  module _ (s k : ℕ) (p : find_block l (length image) i b ≡ Lookup.Found s k) where
+  module _ (s k : ℕ) (p : find_block l (length image) i b ≡ found s k) where
     end : s + k ≤ length image
     end = (block_inside l (length image) i b s k p).end
 
@@ -139,7 +129,7 @@ module _ (l : Layout) (image : List ℕ) (i b : ℕ) (w : List ℕ) (lw : length
       (λ e p. rw (not_stored e p)))
 
   -- the image is the block's own bytes pasted where they stand
-  found_differing : (s k : ℕ) → find_block l (length image) i b ≡ Lookup.Found s k
+  found_differing : (s k : ℕ) → find_block l (length image) i b ≡ found s k
       → differing image (paste image s w k) ≡ differing (take k (drop s image)) (take k w)
   found_differing s k p =
       let bs = take k (drop s image) in

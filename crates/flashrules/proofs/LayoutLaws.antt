@@ -1,8 +1,7 @@
--- Laws of layouts: their classes as the code goes through them, by the index k of an entry, and
--- what a valid layout has.
+-- Laws of layouts: what a valid layout has, and which layouts are the same.
 use Prim.Native.Nat.{ℕ, zero, suc, ◌+◌, ◌≤◌, ◌<◌, min}
-use mathlib.Core.Path.{◌≡◌, refl, sym, ap, ◌∙◌}
-use mathlib.Core.Bool.{Bool, true, false, cond, true≢false}
+use mathlib.Core.Path.{◌≡◌, refl, sym}
+use mathlib.Core.Bool.{true, false, true≢false}
 use mathlib.Core.List.{List, [], ◌∷◌}
 use native.Mathlib.Numerals.{add-one}
 use native.Mathlib.Omega.{arith}
@@ -10,16 +9,16 @@ use lib.Dec.{eqb}
 use lib.ListN.{length, drop, get_or, length-take, drop_of_length-le}
 use lib.Seq.{drop-cons, get_or-take}
 use borrow.Author.Tests.{eq-eqb, ne_eqb, eqb-true, leb-true}
-use Rattle.flashrules.specs.Error.{unknown_class}
 use Rattle.flashrules.specs.Layout.{max_classes, max_image_length, info_class, info_length, key_class, min_key_length}
-use Rattle.flashrules.specs.Layout.{Class, paired, classes, size_of, size, locate, in_order, ordered, length_in, valid, fits, same_classes, same_layout}
+use Rattle.flashrules.specs.Layout.{Class, paired, classes, size, ordered, length_in, valid, fits, same_classes, same_layout}
 use Rattle.flashrules.specs.Laws.{SameTest}
 use Rattle.flashrules.specs.declared.layout.Layout.{Layout}
-use Rattle.flashrules.specs.declared.lookup.Lookup.{Lookup}
-use Rattle.flashrules.proofs.Picks.{pick_last, and_first, and_rest}
+use Rattle.flashrules.proofs.Picks.{and_first, and_rest}
 
 abbrev entry : ℕ → ℕ → Class
 entry i n = record { id = i; len = n }
+
+-- ---- the entries in use, by the index k of an entry
 
 length_paired : (is ns : List ℕ) → length (paired is ns) ≡ min (length is) (length ns)
 length_paired [] ns = omega arith
@@ -68,47 +67,6 @@ module _ (l : Layout) (k : ℕ) (w : Whole l) where
   pub classes_next : k < l.count → drop k (classes l) ≡ entry (get_or l.ids k 0) (get_or l.lengths k 0) ∷ drop (k + 1) (classes l)
   classes_next h = entries_next l k arrays (omega (arith, w.used))
 
--- ---- the class search: `e` is the loop's invariant
-
-module _ (l : Layout) (k at i : ℕ) (z : Lookup) (w : Whole l) (e : locate at (drop k (classes l)) i ≡ z) where
-  pub locate_end : l.count ≤ k → Lookup.Refused unknown_class ≡ z
-  locate_end h = rw (classes_end l k w h) at e
-
-  module _ (n : ℕ) (p : n ≡ get_or l.lengths k 0) (h : k < l.count) where
-    locate_turn : cond (eqb (get_or l.ids k 0) i) (Lookup.Found at n) (locate (at + n) (drop (k + 1) (classes l)) i) ≡ z
-    locate_turn = rw (classes_next l k w h, ← p) at e
-
-    pub locate_here : get_or l.ids k 0 ≡ i → Lookup.Found at n ≡ z
-    locate_here q = rw (eq-eqb _ _ q) at locate_turn
-
-    pub locate_on : (get_or l.ids k 0 ≡ i → ⊥) → locate (at + n) (drop (k + 1) (classes l)) i ≡ z
-    locate_on q = rw (ne_eqb _ _ q) at locate_turn
-
--- ---- the sum of the lengths
-
-module _ (l : Layout) (k sum z : ℕ) (w : Whole l) (e : sum + size_of (drop k (classes l)) ≡ z) where
-  pub size_end : l.count ≤ k → sum ≡ z
-  size_end h = let q : size_of (drop k (classes l)) ≡ 0 = ap size_of (classes_end l k w h) in omega arith
-
-  pub size_more : (n : ℕ) → n ≡ get_or l.lengths k 0 → k < l.count → sum + n + size_of (drop (k + 1) (classes l)) ≡ z
-  size_more n p h = let q = ap size_of (classes_next l k w h) in omega arith
-
--- ---- the order of the identifiers
-
-module _ (l : Layout) (k lo : ℕ) (z : Bool) (w : Whole l) (e : ordered lo (drop k (classes l)) ≡ z) where
-  pub ordered_end : l.count ≤ k → true ≡ z
-  ordered_end h = rw (classes_end l k w h) at e
-
-  module _ (i n : ℕ) (t : Bool) (p : i ≡ get_or l.ids k 0) (q : n ≡ get_or l.lengths k 0) (h : k < l.count) (g : t ≡ in_order lo (entry i n)) where
-    ordered_turn : cond t (ordered (i + 1) (drop (k + 1) (classes l))) false ≡ z
-    ordered_turn = rw (g, p, q) (rw (classes_next l k w h) at e)
-
-    pub ordered_on : t ≡ true → ordered (i + 1) (drop (k + 1) (classes l)) ≡ z
-    ordered_on r = rw r at ordered_turn
-
-    pub ordered_not : t ≡ false → false ≡ z
-    ordered_not r = rw r at ordered_turn
-
 -- ---- what a valid layout has
 
 pub record Valid (l : Layout) : Type 0 where
@@ -126,13 +84,6 @@ valid_parts l e = search (and_first, and_rest, leb-true, eqb-true) depth 12
 pub fits_parts : (l : Layout) (n : ℕ) → fits l n ≡ true → (valid l ≡ true) × (n ≡ size l)
 unfolding fits
 fits_parts l n e = search (and_first, and_rest, eqb-true)
-
--- for the functions that ask it of a layout that a call has found valid, or fitting
-pub valid_used : (l : Layout) (t : Bool) → t ≡ valid l → t ≡ true → l.count ≤ max_classes
-valid_used l t p q = (valid_parts l (sym p ∙ q)).used
-
-pub fits_used : (l : Layout) (n : ℕ) (t : Bool) → t ≡ fits l n → t ≡ true → l.count ≤ max_classes
-fits_used l n t p q = (valid_parts l (fits_parts l n (sym p ∙ q)).0).used
 
 -- ---- two layouts
 
@@ -162,27 +113,3 @@ same_test l l' = (
 pub same_counts : (l l' : Layout) → (l.count ≡ l'.count → ⊥) → false ≡ same_layout l l'
 unfolding same_layout
 same_counts l l' h = rw (ne_eqb l.count l'.count h)
-
-pub same_start : (l l' : Layout) → l.count ≡ l'.count → same_classes (drop 0 (classes l)) (drop 0 (classes l')) ≡ same_layout l l'
-unfolding same_layout
-same_start l l' c = rw (eq-eqb l.count l'.count c) (pick_last _ (same_classes (classes l) (classes l')) refl)
-
--- the loop over the entries of both: `e` is its invariant
-module _ (l l' : Layout) (k n : ℕ) (w : WholeArrays l) (w' : WholeArrays l') (c : l.count ≡ l'.count) (m : n ≡ min l.count max_classes)
-    (e : same_classes (drop k (classes l)) (drop k (classes l')) ≡ same_layout l l') where
-  pub same_end : n ≤ k → true ≡ same_layout l l'
-  same_end h = rw (entries_end l k w (omega arith), entries_end l' k w' (omega arith)) at e
-
-  module _ (h : k < n) where
-    same_turn : same_classes (entry (get_or l.ids k 0) (get_or l.lengths k 0) ∷ drop (k + 1) (classes l)) (entry (get_or l'.ids k 0) (get_or l'.lengths k 0) ∷ drop (k + 1) (classes l')) ≡ same_layout l l'
-    same_turn = rw (entries_next l k w (omega arith), entries_next l' k w' (omega arith)) at e
-
-    pub same_ids : (get_or l.ids k 0 ≡ get_or l'.ids k 0 → ⊥) → false ≡ same_layout l l'
-    same_ids d = rw (ne_eqb _ _ d) at same_turn
-
-    module _ (p : get_or l.ids k 0 ≡ get_or l'.ids k 0) where
-      pub same_lengths : (get_or l.lengths k 0 ≡ get_or l'.lengths k 0 → ⊥) → false ≡ same_layout l l'
-      same_lengths d = rw (eq-eqb _ _ p, ne_eqb _ _ d) at same_turn
-
-      pub same_next : get_or l.lengths k 0 ≡ get_or l'.lengths k 0 → same_classes (drop (k + 1) (classes l)) (drop (k + 1) (classes l')) ≡ same_layout l l'
-      same_next q = pick_last _ (same_classes (drop (k + 1) (classes l)) (drop (k + 1) (classes l'))) refl ∙ rw (eq-eqb _ _ p, eq-eqb _ _ q) at same_turn

@@ -3,6 +3,7 @@ pub mod DifferingLaws
 pub mod PartLaws
 pub mod ImageLaws
 pub mod Laws
+pub mod ErrorLaws
 pub mod LayoutLaws
 pub mod LookupLaws
 pub mod Picks

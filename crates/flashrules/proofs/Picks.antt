@@ -6,10 +6,12 @@ use borrow.Author.Tests.{eqb-true, eq-eqb, ne_eqb, lt-ltb, le-ltb, le-leb, lt-le
 use mathlib.Core.Path.{◌≡◌, refl, sym, ◌∙◌}
 use mathlib.Core.Bool.{Bool, true, false, cond, not, true≢false}
 use mathlib.Core.List.{List, [], ◌∷◌}
+use Rattle.std.specs.Prelude.{Ok, Err}
 use lib.Dec.{eqb, ltb, leb}
-use Rattle.flashrules.specs.Answer.{if_found, error_of}
+use Rattle.flashrules.specs.Error.{number}
+use Rattle.flashrules.specs.Answer.{Lookup, found, refused, if_found, error_of}
 use Rattle.flashrules.specs.Choice.{same}
-use Rattle.flashrules.specs.declared.lookup.Lookup.{Lookup}
+use Rattle.flashrules.specs.declared.error.Error.{Error}
 
 module _ {A : Type 0} (z x y : A) (a b : ℕ) where
   pub pick_eq : a ≡ b → z ≡ x → z ≡ cond (eqb a b) x y
@@ -78,10 +80,10 @@ pub call_lt : (j k v : ℕ) → k ≡ j → ltb k v ≡ ltb j v
 call_lt j k v p = rw p
 
 module _ {A : Type 0} (z : A) (f : ℕ → ℕ → A) (r : ℕ → A) (a k : Lookup) (p : k ≡ a) where
-  pub call_found : (s n : ℕ) → k ≡ Lookup.Found s n → z ≡ f s n → z ≡ if_found a f r
+  pub call_found : (s n : ℕ) → k ≡ found s n → z ≡ f s n → z ≡ if_found a f r
   call_found s n q e = rw (← p, q) e
 
-  pub call_refused : (n : ℕ) → k ≡ Lookup.Refused n → z ≡ r n → z ≡ if_found a f r
+  pub call_refused : (n : Error) → k ≡ refused n → z ≡ r (number n) → z ≡ if_found a f r
   call_refused n q e = rw (← p, q) e
 
 -- the error number of an answer, by a call on what a call answered
@@ -124,9 +126,9 @@ module _ {P : Type 0} where
   on_test true f g = f refl
   on_test false f g = g refl
 
-  pub on_answer : (a : Lookup) → ((s k : ℕ) → a ≡ Lookup.Found s k → P) → ((e : ℕ) → a ≡ Lookup.Refused e → P) → P
-  on_answer (Lookup.Found s k) f g = f s k refl
-  on_answer (Lookup.Refused e) f g = g e refl
+  pub on_answer : (a : Lookup) → ((s k : ℕ) → a ≡ found s k → P) → ((e : Error) → a ≡ refused e → P) → P
+  on_answer (Ok p) f g = f p.start p.len refl
+  on_answer (Err e) f g = g e refl
 
 -- a fact of a choice, from what it is on each side
 pub on_cond : {A : Type 0} (P : A → Type 0) (t : Bool) (x y : A) → (t ≡ true → P x) → (t ≡ false → P y) → P (cond t x y)

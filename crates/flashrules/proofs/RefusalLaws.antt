@@ -1,7 +1,11 @@
 -- Laws of the order of refusals: when none of the tests holds, and one list of tests behind
 -- another.
 use Prim.Native.Nat.{ℕ}
-use mathlib.Core.Path.{◌≡◌, refl}
+use mathlib.Core.Path.{◌≡◌, refl, sym, ◌∙◌}
+use Rattle.std.specs.Prelude.{Result, Ok, Err}
+use Rattle.flashrules.specs.Error.{number, number_of}
+use Rattle.flashrules.specs.declared.error.Error.{Error}
+use Rattle.flashrules.proofs.ErrorLaws.{check_passed, check_number, check_refused}
 use mathlib.Core.Bool.{Bool, cond}
 use mathlib.Core.List.{List, [], ◌∷◌, ◌++◌}
 use native.Mathlib.Omega.{arith}
@@ -46,3 +50,11 @@ module _ (ts us : List (Bool × ℕ)) (n : Numbered ts) (e : ℕ) (p : e ≡ fir
 
   pub error_behind : e ≡ 0 → (k : ℕ) → k ≡ first_error us → k ≡ first_error (ts ++ us)
   error_behind h k q = rw (first_append ts us n, ← p, h) q
+
+-- the same of a check that answers the error of the tests
+module _ {A : Type 0} (ts us : List (Bool × ℕ)) (n : Numbered ts) (r : Result A Error) (p : number_of r ≡ first_error ts) where
+  pub check_first : (e : Error) → r ≡ Err e → number e ≡ first_error (ts ++ us)
+  check_first e q = sym (check_number r _ p e q) ∙ error_first ts us n _ refl (check_refused r _ p e q)
+
+  pub check_behind : (x : A) → r ≡ Ok x → (k : ℕ) → k ≡ first_error us → k ≡ first_error (ts ++ us)
+  check_behind x q = error_behind ts us n _ refl (check_passed r _ p x q)

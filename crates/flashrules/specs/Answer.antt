@@ -1,13 +1,25 @@
--- What a lookup answers, case by case: document 01's error number, and the values.
-use Rattle.std.specs.Prelude.{ℕ}
-use Rattle.flashrules.specs.declared.lookup.Lookup.{Lookup}
+-- What a lookup answers, case by case: a place, or document 01's refusal.
+use Rattle.std.specs.Prelude.{ℕ, Result, Ok, Err}
+use Rattle.flashrules.specs.Error.{number}
+use Rattle.flashrules.specs.declared.error.Error.{Error}
+use Rattle.flashrules.specs.declared.lookup.Place.{Place}
+
+abbrev pub Lookup : Type 0
+Lookup = Result Place Error
+
+-- so many bytes from a place of the image on
+abbrev pub found : ℕ → ℕ → Lookup
+found s n = Ok (record { start = s; len = n })
+
+abbrev pub refused : Error → Lookup
+refused e = Err e
 
 -- a choice by the answer: of start and length where it is found, of the error number where it is
 -- refused
 module _ {A : Type 0} where
   abbrev pub if_found : Lookup → (ℕ → ℕ → A) → (ℕ → A) → A
-  if_found (Lookup.Found s n) f r = f s n
-  if_found (Lookup.Refused e) f r = r e
+  if_found (Ok p) f r = f p.start p.len
+  if_found (Err e) f r = r (number e)
 
 -- document 01's number (01, "Numbers of the refusals"), 0 where there is none
 abbrev pub error_of : Lookup → ℕ

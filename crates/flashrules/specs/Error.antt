@@ -1,6 +1,7 @@
 -- The error numbers, in the order of document 01's table, "Numbers of the refusals", and behind it
 -- those of document 02; 0 is none.
-use Rattle.std.specs.Prelude.{ℕ}
+use Rattle.std.specs.Prelude.{ℕ, Option, None, Some, Result, Ok, Err}
+use Rattle.flashrules.specs.declared.error.Error.{Error}
 
 -- 1: "n is 0 or r + n above 128"; document 02, C-16, "1 for a supply above 4,500"
 abbrev pub invalid_argument : ℕ
@@ -73,3 +74,37 @@ low_supply = 17
 -- 18: document 02, C-11, "layouts differ"
 abbrev pub layout_mismatch : ℕ
 layout_mismatch = 18
+
+-- ---- the refusals as the values of one type
+
+-- each has its number
+abbrev pub number : Error → ℕ
+number Error.InvalidArgument = invalid_argument
+number Error.ReadOnly = read_only
+number Error.SealedRegister = sealed_register
+number Error.UnknownClass = unknown_class
+number Error.UnknownBlock = unknown_block
+number Error.NothingLoaded = nothing_loaded
+number Error.ProtectedBlock = protected_block
+number Error.WrongChecksum = wrong_checksum
+number Error.InvalidControl = invalid_control
+number Error.Malformed = malformed
+number Error.InvalidParameter = invalid_parameter
+number Error.MisplacedParameter = misplaced_parameter
+number Error.OutOfRange = out_of_range
+number Error.ShortBuffer = short_buffer
+number Error.InvalidGauge = invalid_gauge
+number Error.ProtectedKeys = protected_keys
+number Error.LowSupply = low_supply
+number Error.LayoutMismatch = layout_mismatch
+
+-- 0 where nothing was refused (01: "0 if none")
+abbrev pub number_or_none : Option Error → ℕ
+number_or_none None = 0
+number_or_none (Some e) = number e
+
+module _ {A : Type 0} where
+  -- the number of an answer
+  abbrev pub number_of : Result A Error → ℕ
+  number_of (Ok x) = 0
+  number_of (Err e) = number e

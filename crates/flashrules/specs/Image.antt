@@ -4,10 +4,9 @@
 use Rattle.std.specs.Prelude.{ℕ, ◌+◌, ◌-◌, ◌≤◌, Bool, true, List, [], ◌∷◌, ◌++◌, leb, length, get_or, take, drop, replicate}
 use Rattle.std.proofs.Math.Seq.{paste}
 use Rattle.flashrules.specs.Choice.{and}
-use Rattle.flashrules.specs.Answer.{if_found}
+use Rattle.flashrules.specs.Answer.{Lookup, if_found}
 use Rattle.flashrules.specs.Lookup.{block_size, find_block}
 use Rattle.flashrules.specs.declared.layout.Layout.{Layout}
-use Rattle.flashrules.specs.declared.lookup.Lookup.{Lookup}
 
 abbrev pub max_byte : ℕ
 max_byte = 255

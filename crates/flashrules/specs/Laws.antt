@@ -5,18 +5,26 @@ use Rattle.std.proofs.lemmas.List.Edits.{sets}
 use Rattle.checksum.specs.Checksum.{checksum}
 use Rattle.flashrules.specs.Refusal.{first_error, NoneHolds, Numbered}
 use Rattle.flashrules.specs.Choice.{differing}
-use Rattle.flashrules.specs.Answer.{if_found, error_of, start_of, length_of}
+use Rattle.flashrules.specs.Error.{number}
+use Rattle.flashrules.specs.Answer.{Lookup, found, if_found, error_of, start_of, length_of}
 use Rattle.flashrules.specs.Layout.{classes, size, valid, fits, same_layout, info_class, key_class, min_key_length}
 use Rattle.flashrules.specs.Lookup.{block_size, find_class, find_block, block_exists}
 use Rattle.flashrules.specs.Image.{block_bytes, store_block, as_loaded}
+use Rattle.flashrules.specs.declared.error.Error.{Error}
 use Rattle.flashrules.specs.declared.layout.Layout.{Layout}
-use Rattle.flashrules.specs.declared.lookup.Lookup.{Lookup}
 
 -- ---- refusals
 
 -- a list of tests gives 0 exactly if none of them holds
 abbrev pub NoError : Type 0
 NoError = (ts : List (Bool × ℕ)) → Numbered ts → (first_error ts ≡ 0) ↔ NoneHolds ts
+
+-- no refusal has the number 0, and no two have one number
+abbrev pub NumberSome : Type 0
+NumberSome = (e : Error) → 0 < number e
+
+abbrev pub NumbersApart : Type 0
+NumbersApart = (e f : Error) → number e ≡ number f → e ≡ f
 
 -- ---- how many places differ
 
@@ -52,7 +60,7 @@ pub record Inside (n s k : ℕ) : Type 0 where
   pub end : s + k ≤ n
 
 abbrev pub BlockInside : Type 0
-BlockInside = (l : Layout) (n i b s k : ℕ) → find_block l n i b ≡ Lookup.Found s k → Inside n s k
+BlockInside = (l : Layout) (n i b s k : ℕ) → find_block l n i b ≡ found s k → Inside n s k
 
 -- a block exists exactly if its lookup in an image of the layout finds it
 abbrev pub ExistsFound : Type 0
@@ -63,8 +71,8 @@ ExistsFound =
 -- two blocks that differ in class or in number do not overlap
 abbrev pub BlocksApart : Type 0
 BlocksApart =
-    (l : Layout) (n i b s k i' b' s' k' : ℕ) → find_block l n i b ≡ Lookup.Found s k
-    → find_block l n i' b' ≡ Lookup.Found s' k'
+    (l : Layout) (n i b s k i' b' s' k' : ℕ) → find_block l n i b ≡ found s k
+    → find_block l n i' b' ≡ found s' k'
     → ((i ≡ i') × (b ≡ b') → ⊥) → (s + k ≤ s') ⊎ (s' + k' ≤ s)
 
 -- a block is as long as its lookup says
@@ -133,7 +141,7 @@ StoreMost =
 -- there, and is else what it was
 abbrev pub StoreEdited : Type 0
 StoreEdited =
-    (l : Layout) (image : List ℕ) (i b s k : ℕ) → find_block l (length image) i b ≡ Lookup.Found s k
+    (l : Layout) (image : List ℕ) (i b s k : ℕ) → find_block l (length image) i b ≡ found s k
     → (o : ℕ) (bs : List ℕ) → o + length bs ≤ k
     → store_block l image i b (sets (as_loaded (block_bytes l image i b)) o bs) ≡ sets image (s + o) bs
 

@@ -1,10 +1,9 @@
 -- Layouts. Document 01, "Layout and image", first point.
 use Rattle.std.specs.Prelude.{ℕ, ◌+◌, Bool, true, false, cond, List, [], ◌∷◌, eqb, leb, take, replicate}
-use Rattle.flashrules.specs.Answer.{length_of}
-use Rattle.flashrules.specs.Error.{unknown_class}
+use Rattle.flashrules.specs.Answer.{Lookup, found, refused, length_of}
 use Rattle.flashrules.specs.Choice.{and}
 use Rattle.flashrules.specs.declared.layout.Layout.{Layout}
-use Rattle.flashrules.specs.declared.lookup.Lookup.{Lookup}
+use Rattle.flashrules.specs.declared.error.Error.{Error}
 
 -- ---- the numbers of the paper
 
@@ -60,8 +59,8 @@ size l = size_of (classes l)
 -- 01: "The image is the classes' bytes in that order, end to end." The class with an identifier,
 -- where the first one starts at `at`
 abbrev pub locate : ℕ → List Class → ℕ → Lookup
-locate at [] i = Lookup.Refused unknown_class
-locate at (c ∷ cs) i = cond (eqb c.id i) (Lookup.Found at c.len) (locate (at + c.len) cs i)
+locate at [] i = refused Error.UnknownClass
+locate at (c ∷ cs) i = cond (eqb c.id i) (found at c.len) (locate (at + c.len) cs i)
 
 -- a layout of no classes, all zero
 abbrev pub no_classes : Layout

@@ -1,5 +1,8 @@
 // Layouts: which classes an image has, in which order and how long. A layout is plain numbers, so a
 // broken one can be written down and passed to every function.
+// Stays: C passes it by value, so it is two arrays and a count; and a broken one must be there to
+// be refused with 10. It travels beside an image and not with it: C lends the image apart, and a
+// struct that holds a `&mut` has no ghost field to say that the two go together.
 pub const MAX_CLASSES: usize = 32;
 
 pub const MAX_CLASS_LENGTH: usize = 512;

@@ -1,69 +1,37 @@
--- What goes into a buffer where causes are reported, and which of the two reports it is.
-use Prim.Native.Nat.{ℕ, ◌≤◌}
-use mathlib.Core.Path.{◌≡◌}
-use mathlib.Core.List.{List}
-use native.Mathlib.Omega.{arith}
-use lib.ListN.{length}
-use lib.Seq.{sets}
-use borrow.Author.Tests.{ne_eqb}
+-- What goes into a buffer where causes are reported.
+use Rattle.std.proofs.Common.{◌≡◌, ap, ℕ, ◌≤◌, List, length}
+use Rattle.std.proofs.lemmas.List.Edits.{sets}
 use Rattle.flashrules.specs.Outcome.{Outcome, outcome}
 use Rattle.flashrules.specs.declared.layout.Layout.{Layout}
-use Rattle.gaugerules.specs.declared.state.Gauge.{Gauge}
-use Rattle.causerules.specs.Notes.{blank, next_line, track, track_supply, tracked_text}
+use Rattle.causerules.specs.Answer.{TrackAnswer}
+use Rattle.causerules.specs.Cause.{cause_text}
+use Rattle.causerules.specs.Notes.{next_line, tracked, track_supply, tracked_text}
 use Rattle.causerules.specs.declared.notes.Notes.{Notes}
-use Rattle.causerules.specs.declared.notes.Tracked.{Tracked}
 use Rattle.scriptrules.specs.Frame.{Frame, write_frame, read_frame, supply_frame}
 use Rattle.scriptrules.specs.Reply.{max_reply}
-use Rattle.scriptrules.specs.Session.{report_replies, report_causes, session, Runner, runner, track_frame, track_supply_frame, frame_text, after_line}
-use Rattle.scriptrules.specs.Run.{Lent, lend, answered, run_frame}
+use Rattle.scriptrules.specs.Session.{report_causes, session, runner, frame_text, after_line}
+use Rattle.scriptrules.specs.Run.{lend, answered, run_frame}
 use Rattle.scriptrules.specs.declared.session.Session.{Session}
-use Rattle.scriptrules.specs.declared.answer.Answered.{Answered}
 use Rattle.scriptrules.proofs.SessionLaws.{tracked_length}
+use Rattle.framerunner.specs.Track.{track_frame}
 
-pub begun : (g : Gauge) (n : Notes) → n ≡ blank → session g n ≡ session g blank
-begun g n e = rw e
+-- t is what a frame came to, and its line has m characters
+module _ (l : Layout) (image image' : List ℕ) (s : Session) (buffer buffer' : List ℕ) (at m : ℕ) (n : Notes) (t : TrackAnswer) (e : n ≡ next_line s.notes)
+    (q : buffer' ≡ sets buffer at (tracked_text t)) (k : m ≡ length (tracked_text t)) where
+  pub explained : (f : Frame) → outcome t image' ≡ track_frame l image s.gauge n f
+      → outcome (answered 0 (session t.gauge t.notes) m) (lend image' buffer') ≡ run_frame l report_causes (runner s image) f buffer at
+  unfolding run_frame frame_text after_line Rattle.scriptrules.specs.Session.track_frame Rattle.scriptrules.specs.Session.track_supply_frame outcome tracked_text cause_text
+  explained (write_frame r bytes) p = rw (q, k, ← e, ← p)
+  explained (read_frame r c) p =
+      let a : t ≡ tracked 0 s.gauge n = ap (λ (o : Outcome TrackAnswer (List ℕ)). o.answer) p in
+      let b : image' ≡ image = ap (λ (o : Outcome TrackAnswer (List ℕ)). o.lent) p in
+      rw (q, k, a, b, e)
+  explained (supply_frame millivolts) p =
+      let a : t ≡ track_supply l (length image) s.gauge n millivolts = ap (λ (o : Outcome TrackAnswer (List ℕ)). o.answer) p in
+      let b : image' ≡ image = ap (λ (o : Outcome TrackAnswer (List ℕ)). o.lent) p in
+      rw (q, k, a, b, e)
 
-pub next_answered : (s : Session) (n : Notes) → n ≡ next_line s.notes
-    → answered 0 (session s.gauge n) 0 ≡ answered 0 (session s.gauge (next_line s.notes)) 0
-next_answered s n e = rw e
+pub explained_short : (t : TrackAnswer) (m : ℕ) → m ≡ length (tracked_text t) → m ≤ max_reply
+explained_short t m p = rw p (tracked_length t)
 
-pub read_none : (a : Answered) (s : Session) → a ≡ answered 0 s 0 → a.length ≤ max_reply
-read_none a s p = rw p (omega arith)
-
-module _ (t : Tracked) (m : ℕ) (p : m ≡ length (tracked_text t)) where
-  pub tracked_put : answered 0 (session t.gauge t.notes) m ≡ answered 0 (session t.gauge t.notes) (length (tracked_text t))
-  tracked_put = rw p
-
-  pub tracked_short : m ≤ max_reply
-  tracked_short = rw p (tracked_length t)
-
--- a is what a frame came to that was noted as t
-module _ (l : Layout) (image : List ℕ) (r : ℕ) (s : Session) (buffer buffer' : List ℕ) (at : ℕ) (n : Notes) (t : Tracked) (a : Answered)
-    (e : n ≡ next_line s.notes) (h : a ≡ answered 0 (session t.gauge t.notes) (length (tracked_text t))) (q : buffer' ≡ sets buffer at (tracked_text t)) where
-  pub write_explained : (bytes image' : List ℕ) → outcome t image' ≡ track l image s.gauge n r bytes
-      → outcome a (lend image' buffer') ≡ run_frame l report_causes (runner s image) (write_frame r bytes) buffer at
-  unfolding run_frame frame_text after_line track_frame outcome
-  write_explained bytes image' p = rw (h, q, ← e, ← p)
-
-  pub supply_explained : (millivolts : ℕ) → t ≡ track_supply l (length image) s.gauge n millivolts
-      → outcome a (lend image buffer') ≡ run_frame l report_causes (runner s image) (supply_frame millivolts) buffer at
-  unfolding run_frame frame_text after_line track_supply_frame outcome
-  supply_explained millivolts p = rw (h, q, ← e, ← p)
-
-module _ (l : Layout) (image : List ℕ) (r : ℕ) (s : Session) where
-  pub read_explained : (report : ℕ) (buffer : List ℕ) (a : Answered) (n at : ℕ) → report ≡ report_causes
-      → a ≡ answered 0 (session s.gauge (next_line s.notes)) 0
-      → outcome a (lend image buffer) ≡ run_frame l report (runner s image) (read_frame r n) buffer at
-  unfolding run_frame frame_text after_line outcome
-  read_explained report buffer a n at k p = rw (k, p)
-
--- ---- by the report
-
-module _ (l : Layout) (report : ℕ) (b : Runner) (f : Frame) (buffer : List ℕ) (at : ℕ) (z : Outcome Answered Lent) where
-  pub reports_causes : report ≡ report_causes → z ≡ run_frame l report_causes b f buffer at → z ≡ run_frame l report b f buffer at
-  reports_causes k p = rw k p
-
-  -- any other number is taken as replies
-  pub reports_replies : (report ≡ report_causes → ⊥) → z ≡ run_frame l report_replies b f buffer at → z ≡ run_frame l report b f buffer at
-  unfolding run_frame frame_text after_line
-  reports_replies k p = rw (ne_eqb report report_causes k) p
+pub ruleset explains = (explained_short)

@@ -1,83 +1,65 @@
 // A line of output where a write or a supply is refused: document 02, C-13 and C-16.
-ghost use Rattle.std.specs.Prelude.{◌≡◌, ◌≤◌, length};
-ghost use Rattle.std.proofs.lemmas.List.Edits.{sets};
+// Stays: layout, image and session are parameters of their own, as `flashrules::layout` says.
+ghost use Rattle.std.specs.Prelude.{◌≡◌};
 ghost use Rattle.flashrules.specs.Outcome.{outcome};
-ghost use Rattle.causerules.specs.Notes.{next_line, tracked_text};
-ghost use Rattle.scriptrules.specs.Frame.{write_frame, supply_frame};
-ghost use Rattle.scriptrules.specs.Reply.{max_reply};
-ghost use Rattle.scriptrules.specs.Session.{report_causes, session, runner};
-ghost use Rattle.scriptrules.specs.Run.{lend, answered, run_frame};
+ghost use Rattle.causerules.specs.Answer.{track_answer};
+ghost use Rattle.scriptrules.specs.Given.{frame_given};
+ghost use Rattle.scriptrules.specs.Session.{report_causes, runner};
+ghost use Rattle.scriptrules.specs.Run.{lend, run_frame};
+ghost use Rattle.framerunner.specs.Answer.{frame_answer};
+ghost use Rattle.framerunner.specs.Track.{track_frame};
 
-use causerules::notes::Tracked;
+use causerules::notes::{Notes, Tracked};
 use causes::notes::next_line;
 use causes::text::put_cause;
 use causes::track::{track, track_supply};
 use flashrules::layout::Layout;
+use gaugerules::state::Gauge;
 use scriptrules::answer::Answered;
+use scriptrules::frame::Frame;
 use scriptrules::session::Session;
 
-// A line where a frame was refused, and the session after it.
-fn put_tracked(tracked: Tracked, buffer: &mut [u8], at: usize) -> Answered
-    ensures value { (result ≡ answered 0 (session tracked.gauge tracked.notes) (length (tracked_text tracked))) × (buffer.new ≡ sets buffer.old at (tracked_text tracked)) }
-    ensures length_le_max_reply { result.length ≤ max_reply }
+// A frame is run, and its bytes are noted. A read gives no reason.
+fn track_frame(
+    layout: Layout,
+    image: &mut [u8],
+    gauge: Gauge,
+    notes: Notes,
+    frame: Frame,
+) -> Tracked
+    ensures { outcome (track_answer result) image.new ≡ track_frame layout image.old gauge notes (frame_given frame.entry) }
 {
-    let length = put_cause(tracked, buffer, at);
-    let after = tracked.gauge;
-    let noted = tracked.notes;
-    Answered {
-        error: 0,
-        session: Session {
-            gauge: after,
-            notes: noted,
+    match frame {
+        Frame::Write { register, bytes } => track(layout, image, gauge, notes, register, bytes),
+        Frame::Read { .. } => Tracked {
+            error: None,
+            gauge,
+            notes,
         },
-        length,
+        Frame::Supply { millivolts } => track_supply(layout, image.len(), gauge, notes, millivolts),
     }
 }
 
-// A write frame is run as the next line, and its bytes are noted.
-pub(crate) fn explain_write(
+// A frame is run as the next line. Where it is refused, a line says why; a read puts out nothing.
+#[tactic(auto, using(crate::proofs::ExplainLaws::explains))]
+pub(crate) fn explain(
     layout: Layout,
     image: &mut [u8],
     session: Session,
-    register: u8,
-    bytes: &[u8],
+    frame: Frame,
     buffer: &mut [u8],
     at: usize,
 ) -> Answered
-    ensures buffer_after { outcome result (lend image.new buffer.new) ≡ run_frame layout report_causes (runner session image.old) (write_frame register bytes.now) buffer.old at }
-    ensures length_le_max_reply { result.length ≤ max_reply }
+    ensures { outcome (frame_answer result) (lend image.new buffer.new) ≡ run_frame layout report_causes (runner session image.old) (frame_given frame.entry) buffer.old at }
 {
     let notes = next_line(session.notes);
-    let tracked = track(layout, image, session.gauge, notes, register, bytes);
-    put_tracked(tracked, buffer, at)
-}
-
-// A supply frame is run as the next line.
-pub(crate) fn explain_supply(
-    layout: Layout,
-    image: &[u8],
-    session: Session,
-    millivolts: u16,
-    buffer: &mut [u8],
-    at: usize,
-) -> Answered
-    ensures buffer_after { outcome result (lend image.now buffer.new) ≡ run_frame layout report_causes (runner session image.now) (supply_frame millivolts) buffer.old at }
-    ensures length_le_max_reply { result.length ≤ max_reply }
-{
-    let notes = next_line(session.notes);
-    let tracked = track_supply(layout, image.len(), session.gauge, notes, millivolts);
-    put_tracked(tracked, buffer, at)
-}
-
-// A read frame is a line too. It puts out nothing.
-pub(crate) fn explain_read(before: Session) -> Answered
-    ensures { result ≡ answered 0 (session before.gauge (next_line before.notes)) 0 }
-{
-    let gauge = before.gauge;
-    let notes = next_line(before.notes);
+    let tracked = track_frame(layout, image, session.gauge, notes, frame);
+    let length = put_cause(tracked, buffer, at);
     Answered {
-        error: 0,
-        session: Session { gauge, notes },
-        length: 0,
+        session: Session {
+            gauge: tracked.gauge,
+            notes: tracked.notes,
+        },
+        length,
     }
 }

@@ -4,6 +4,6 @@
 #![tactic(auto)]
 
 mod explain;
+pub mod frame;
 mod reply;
-pub mod report;
 pub mod session;

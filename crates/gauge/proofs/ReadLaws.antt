@@ -1,27 +1,28 @@
 -- Laws of a read: one register, the loop that fills the buffer, and the checks before it.
 use Prim.Native.Nat.{ℕ, suc, ◌+◌, ◌-◌, ◌/◌, ◌%◌, ◌≤◌, ◌<◌}
-use mathlib.Core.Path.{◌≡◌, sym, ◌∙◌}
+use mathlib.Core.Path.{◌≡◌}
 use mathlib.Core.Bool.{cond}
 use mathlib.Core.List.{List, [], ◌∷◌, ◌++◌, append_assoc}
-use native.Mathlib.Nat.{sub-zero}
 use native.Mathlib.Numerals.{add-one}
 use native.Mathlib.Omega.{arith}
 use lib.Dec.{ltb}
-use lib.ListN.{length, get_or, take, drop, set, take-append-drop}
-use lib.Seq.{take-suc-set, drop-set-lt}
-use borrow.Author.Tests.{eq-eqb, ne_eqb}
+use lib.ListN.{length, get_or, take, set}
+use lib.Seq.{take-suc-set}
+use Rattle.std.proofs.lemmas.List.{length-take-le}
 use Rattle.checksum.specs.Checksum.{checksum}
-use Rattle.flashrules.specs.Error.{short_buffer}
-use Rattle.flashrules.specs.Outcome.{outcome}
+use Rattle.std.specs.Prelude.{Result, Ok, Err}
+use Rattle.flashrules.specs.declared.error.Error.{Error}
+use Rattle.flashrules.specs.Error.{number, number_of, short_buffer}
 use Rattle.flashrules.specs.declared.layout.Layout.{Layout}
-use Rattle.flashrules.proofs.RefusalLaws.{error_first, error_behind}
-use Rattle.gaugerules.specs.Register.{registers, register_of}
+use Rattle.flashrules.proofs.RefusalLaws.{check_first, check_behind}
+use Rattle.flashrules.proofs.ErrorLaws.{check_passed, check_number, check_refused}
+use Rattle.gaugerules.specs.Register.{register_of}
 use Rattle.gaugerules.specs.Write.{call_tests, call_error}
-use Rattle.gaugerules.specs.Read.{unless_sealed, read_at, read_byte, read_bytes, reading, read_error, read}
+use Rattle.gaugerules.specs.Read.{unless_sealed, read_at, read_byte, read_bytes, read_error}
 use Rattle.gaugerules.specs.declared.state.Gauge.{Gauge}
 use Rattle.gaugerules.specs.declared.register.Register.{Register}
 use Rattle.gaugerules.proofs.ReadLaws.{read_free}
-use Rattle.gaugerules.proofs.RunLaws.{called}
+use Rattle.gauge.proofs.WriteLaws.{window_inside}
 
 -- ---- one register, by what it was decoded as; x is what a call gave
 
@@ -58,52 +59,35 @@ module _ (g : Gauge) (r x : ℕ) (kind : Register) (p : kind ≡ register_of r) 
   unfolding read_byte read_at
   reads_other q = rw (← p, q)
 
-pub ruleset reads_register = (reads_control_low, reads_control_high, reads_class, reads_block, reads_window, reads_checksum, reads_control, reads_other)
+pub ruleset reads_register = (window_inside, reads_control_low, reads_control_high, reads_class, reads_block, reads_window, reads_checksum, reads_control, reads_other)
 
--- ---- the loop over the buffer: what is left to fill gives what the whole gives. `e` is its
--- invariant
+-- ---- the loop over the buffer: `e` is its invariant
 
-pub fill_start : (g : Gauge) (r n : ℕ) (buffer : List ℕ) → take 0 buffer ++ (read_bytes g r (n - 0) ++ drop n buffer) ≡ read_bytes g r n ++ drop n buffer
-fill_start g r n buffer = rw sub-zero
-
-module _ (g : Gauge) (at i n : ℕ) (buffer z : List ℕ) (e : take i buffer ++ (read_bytes g at (n - i) ++ drop n buffer) ≡ z) where
-  pub fill_end : i ≤ n → n ≤ i → buffer ≡ z
-  unfolding read_bytes
-  fill_end k h = let q : n ≡ i = omega arith in let c : i - i ≡ 0 = omega arith in sym (take-append-drop i buffer) ∙ (rw (q, c) at e)
-
-  pub fill_more : (start : List ℕ) (x : ℕ) → length buffer ≡ length start → n ≤ length start → x ≡ read_byte g at → i < n
-      → take (i + 1) (set buffer i x) ++ (read_bytes g (at + 1) (n - (i + 1)) ++ drop n (set buffer i x)) ≡ z
-  unfolding read_bytes
-  fill_more start x l m p h =
-      let k : i < length buffer = omega arith in
-      let c : n - i ≡ suc (n - (i + 1)) = omega arith in
-      let t : take (i + 1) (set buffer i x) ≡ take i buffer ++ (x ∷ []) = rw (add-one, take-suc-set) in
-      let d : drop n (set buffer i x) ≡ drop n buffer = drop-set-lt n buffer i x h in
-      rw (t, d, append_assoc) (rw (c, ← p) at e)
+pub fill_more : (g : Gauge) (r i n : ℕ) (buffer z : List ℕ) → take i buffer ++ read_bytes g (r + i) (n - i) ≡ z → length buffer ≡ n → i < n
+    → (x : ℕ) → x ≡ read_byte g (r + i) → take (i + 1) (set buffer i x) ++ read_bytes g (r + (i + 1)) (n - (i + 1)) ≡ z
+unfolding read_bytes
+fill_more g r i n buffer z e l h x p =
+    let k : i < length buffer = omega arith in
+    let c : n - i ≡ suc (n - (i + 1)) = omega arith in
+    let a : r + i + 1 ≡ r + (i + 1) = omega arith in
+    let t : take (i + 1) (set buffer i x) ≡ take i buffer ++ (x ∷ []) = rw (add-one, take-suc-set) in
+    rw (t, append_assoc, ← a) (rw (c, ← p) at e)
 
 -- ---- the checks before the first byte
 
 -- the room's test comes behind those of a call
-module _ (l : Layout) (size : ℕ) (g : Gauge) (r n room e : ℕ) (p : e ≡ call_error l size g r n) where
-  pub call_first : (e ≡ 0 → ⊥) → e ≡ read_error l size g r n room
+module _ (l : Layout) (size : ℕ) (g : Gauge) (r n room : ℕ) (a : Result Unit Error) (p : number_of a ≡ call_error l size g r n) where
+  pub call_first : (e : Error) → a ≡ Err e → number e ≡ read_error l size g r n room
   unfolding read_error call_error
-  call_first h = error_first (call_tests l size g r n) ((ltb room n, short_buffer) ∷ []) (omega arith, (omega arith, (omega arith, tt))) e p h
+  call_first = check_first (call_tests l size g r n) ((ltb room n, short_buffer) ∷ []) (omega arith, (omega arith, (omega arith, tt))) a p
 
-  pub room_behind : e ≡ 0 → (k : ℕ) → k ≡ cond (ltb room n) short_buffer 0 → k ≡ read_error l size g r n room
+  pub room_behind : a ≡ Ok tt → (k : ℕ) → k ≡ cond (ltb room n) short_buffer 0 → k ≡ read_error l size g r n room
   unfolding read_error call_error
-  room_behind h k q = error_behind (call_tests l size g r n) ((ltb room n, short_buffer) ∷ []) (omega arith, (omega arith, (omega arith, tt))) e p h k q
+  room_behind = check_behind (call_tests l size g r n) ((ltb room n, short_buffer) ∷ []) (omega arith, (omega arith, (omega arith, tt))) a p tt
 
-module _ (l : Layout) (image buffer : List ℕ) (g : Gauge) (r n e : ℕ) (p : e ≡ read_error l (length image) g r n (length buffer)) where
-  pub reads_span : e ≡ 0 → r + n ≤ registers
-  reads_span q = (called l (length image) g r n (read_free l (length image) g r n (length buffer) (sym p ∙ q)).0).span
+pub ruleset room_tests = (call_first, room_behind)
 
-  pub reads_room : e ≡ 0 → n ≤ length buffer
-  reads_room q = (read_free l (length image) g r n (length buffer) (sym p ∙ q)).1
+pub reads_room : (l : Layout) (size : ℕ) (g : Gauge) (r n room : ℕ) → read_error l size g r n room ≡ 0 → n ≤ room
+reads_room l size g r n room e = (read_free l size g r n room e).1
 
-  pub reads : (to : List ℕ) → e ≡ 0 → to ≡ read_bytes g r n ++ drop n buffer → outcome (reading 0 n) to ≡ read l image g r n buffer
-  unfolding read
-  reads to q x = rw (← p, eq-eqb e 0 q, x)
-
-  pub reads_not : (e ≡ 0 → ⊥) → outcome (reading e 0) buffer ≡ read l image g r n buffer
-  unfolding read
-  reads_not q = rw (← p, ne_eqb e 0 q)
+pub ruleset room = (reads_room, length-take-le, check_passed, check_number, check_refused)

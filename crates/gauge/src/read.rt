@@ -1,16 +1,17 @@
 // A read: so many registers from one on, into a lent buffer. It changes nothing else; a refused one
 // leaves the buffer untouched, and an accepted one the bytes past the answer.
-ghost use Rattle.std.specs.Prelude.{◌≡◌, ◌++◌, ◌+◌, ◌%◌, ◌/◌, ◌≤◌, length, drop};
+// Stays: layout, image and gauge are parameters of their own, as `flashrules::layout` says.
+ghost use Rattle.std.specs.Prelude.{◌≡◌, ◌+◌, length};
+ghost use Rattle.flashrules.specs.Error.{number_of};
 ghost use Rattle.flashrules.specs.Outcome.{outcome};
-ghost use Rattle.gaugerules.specs.Register.{registers};
+ghost use Rattle.gaugerules.specs.Answer.{read_answer};
 ghost use Rattle.gaugerules.specs.Read.{unless_sealed, read_byte, read_bytes, read_error, read};
 
 use crate::register::decode;
-use crate::write::call_error;
+use crate::write::check_call;
 use checksum::checksum;
-use flashrules::error::SHORT_BUFFER;
+use flashrules::error::Error;
 use flashrules::layout::Layout;
-use gaugerules::answer::Reading;
 use gaugerules::register::Register;
 use gaugerules::state::{Gauge, SEALED};
 
@@ -21,72 +22,55 @@ fn unless_sealed(gauge: Gauge, value: u8) -> u8
     if gauge.mode == SEALED { 0 } else { value }
 }
 
-fn low_byte(x: u16) -> u8
-    ensures { result ≡ x % 256 }
-{
-    (x % 256) as u8
-}
-
-fn high_byte(x: u16) -> u8
-    ensures { result ≡ x / 256 }
-{
-    (x / 256) as u8
-}
-
 // What a register reads.
+#[tactic(auto, using(crate::proofs::ReadLaws::reads_register))]
 fn read_byte(gauge: Gauge, register: usize) -> u8
     ensures { result ≡ read_byte gauge register }
 {
-    let kind = decode(register);
-    let window = gauge.window;
-    match kind {
-        Register::ControlLow => low_byte(gauge.result),
-        Register::ControlHigh => high_byte(gauge.result),
+    let [low, high] = gauge.result.to_le_bytes();
+    match decode(register) {
+        Register::ControlLow => low,
+        Register::ControlHigh => high,
         Register::DataFlashClass => unless_sealed(gauge, gauge.class),
         Register::DataFlashBlock => gauge.block,
-        Register::BlockData(k) => window[k],
-        Register::BlockDataChecksum => checksum(&window),
+        Register::BlockData(k) => gauge.window[k],
+        Register::BlockDataChecksum => checksum(&gauge.window),
         Register::BlockDataControl => unless_sealed(gauge, gauge.control),
         Register::Other => 0,
     }
 }
 
-// Why a read is refused, 0 where it is not; the image and the buffer have so many bytes.
-fn read_error(
+// Whether a read is accepted; the image and the buffer have so many bytes.
+#[tactic(auto, using(crate::proofs::ReadLaws::room_tests))]
+fn check_read(
     layout: Layout,
     image_len: usize,
     gauge: Gauge,
     register: u8,
     count: usize,
     room: usize,
-) -> u8
-    ensures { result ≡ read_error layout image_len gauge register count room }
+) -> Result<(), Error>
+    ensures { number_of result ≡ read_error layout image_len gauge register count room }
 {
-    let error = call_error(layout, image_len, gauge, register, count);
-    if error == 0 {
-        if room < count {
-            return SHORT_BUFFER;
-        }
-        return 0;
+    check_call(layout, image_len, gauge, register, count)?;
+    if room < count {
+        return Err(Error::ShortBuffer);
     }
-    error
+    Ok(())
 }
 
-// The registers from one on, into the buffer's first bytes.
-fn fill(gauge: Gauge, register: usize, count: usize, buffer: &mut [u8])
-    requires { (register + count ≤ registers) × (count ≤ length buffer.old) }
-    ensures { buffer.new ≡ read_bytes gauge register count ++ drop count buffer.old }
+// The registers from one on, as many as there is room for.
+#[tactic(auto, unfolding(gaugerules::specs::Read::read_bytes))]
+fn fill(gauge: Gauge, register: u8, buffer: &mut [u8])
+    ensures { buffer.new ≡ read_bytes gauge register (length buffer.old) }
 {
-    let mut at = register;
-    let mut i = 0;
-    while i < count {
-        buffer[i] = read_byte(gauge, at);
-        at += 1;
-        i += 1;
+    for (i, byte) in buffer.iter_mut().enumerate() {
+        *byte = read_byte(gauge, usize::from(register) + i);
     }
 }
 
-// Reads so many registers from one on.
+// Reads so many registers from one on, and answers how many.
+#[tactic(auto, using(crate::proofs::ReadLaws::room), unfolding(gaugerules::specs::Read::read))]
 pub fn read(
     layout: Layout,
     image: &[u8],
@@ -94,16 +78,10 @@ pub fn read(
     register: u8,
     count: usize,
     buffer: &mut [u8],
-) -> Reading
-    ensures { outcome result buffer.new ≡ read layout image.now gauge register count buffer.old }
+) -> Result<usize, Error>
+    ensures { outcome (read_answer result) buffer.new ≡ read layout image.now gauge register count buffer.old }
 {
-    let error = read_error(layout, image.len(), gauge, register, count, buffer.len());
-    if error == 0 {
-        fill(gauge, register as usize, count, buffer);
-        return Reading {
-            error: 0,
-            accepted: count,
-        };
-    }
-    Reading { error, accepted: 0 }
+    check_read(layout, image.len(), gauge, register, count, buffer.len())?;
+    fill(gauge, register, &mut buffer[..count]);
+    Ok(count)
 }

@@ -7,32 +7,18 @@ use gaugerules::register::{
     DATA_FLASH_BLOCK, DATA_FLASH_CLASS, Register,
 };
 
+#[tactic(auto, unfolding(gaugerules::specs::Register::register_of))]
 pub fn decode(register: usize) -> Register
     ensures { result ≡ register_of register }
 {
-    if register == CONTROL_LOW {
-        return Register::ControlLow;
+    match register {
+        CONTROL_LOW => Register::ControlLow,
+        CONTROL_HIGH => Register::ControlHigh,
+        DATA_FLASH_CLASS => Register::DataFlashClass,
+        DATA_FLASH_BLOCK => Register::DataFlashBlock,
+        BLOCK_DATA..BLOCK_DATA_CHECKSUM => Register::BlockData(register - BLOCK_DATA),
+        BLOCK_DATA_CHECKSUM => Register::BlockDataChecksum,
+        BLOCK_DATA_CONTROL => Register::BlockDataControl,
+        _ => Register::Other,
     }
-    if register == CONTROL_HIGH {
-        return Register::ControlHigh;
-    }
-    if register == DATA_FLASH_CLASS {
-        return Register::DataFlashClass;
-    }
-    if register == DATA_FLASH_BLOCK {
-        return Register::DataFlashBlock;
-    }
-    if register < BLOCK_DATA {
-        return Register::Other;
-    }
-    if register < BLOCK_DATA_CHECKSUM {
-        return Register::BlockData(register - BLOCK_DATA);
-    }
-    if register == BLOCK_DATA_CHECKSUM {
-        return Register::BlockDataChecksum;
-    }
-    if register == BLOCK_DATA_CONTROL {
-        return Register::BlockDataControl;
-    }
-    Register::Other
 }

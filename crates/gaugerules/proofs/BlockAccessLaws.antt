@@ -11,13 +11,13 @@ use lib.ListN.{length, take, drop, set}
 use lib.Seq.{sets, drop-cons}
 use borrow.Author.Tests.{eqb-true, eq-eqb, le-ltb}
 use Rattle.checksum.specs.Checksum.{checksum}
+use Rattle.flashrules.specs.Answer.{found}
 use Rattle.flashrules.specs.Error.{short_buffer}
 use Rattle.flashrules.specs.Outcome.{outcome}
 use Rattle.flashrules.specs.Choice.{differing}
 use Rattle.flashrules.specs.Lookup.{block_size, find_block}
 use Rattle.flashrules.specs.Image.{max_byte, Bytes, block_bytes, as_loaded}
 use Rattle.flashrules.specs.declared.layout.Layout.{Layout}
-use Rattle.flashrules.specs.declared.lookup.Lookup.{Lookup}
 use Rattle.flashrules.proofs.Laws.{block_inside, loaded_length, store_edited}
 use Rattle.flashrules.proofs.PartLaws.{part_loaded}
 use Rattle.flashrules.proofs.RefusalLaws.{error_behind}
@@ -32,7 +32,7 @@ use Rattle.gaugerules.specs.Laws.{Good}
 use Rattle.gaugerules.specs.BlockAccess.{flash_selected, block_selected, block_edited, FlashSelects, SelectFlash, BlockSelects, SelectBlock, ReadBlock}
 use Rattle.gaugerules.specs.BlockAccess.{BlockWrites, MayLeave, WriteBlock}
 use Rattle.gaugerules.specs.declared.state.Gauge.{Gauge}
-use Rattle.gaugerules.specs.declared.state.Loaded.{Loaded}
+use Rattle.gaugerules.specs.State.{block_loaded}
 use Rattle.gaugerules.specs.declared.register.Register.{Register}
 use Rattle.gaugerules.proofs.LoadedLaws.{load_view}
 use Rattle.gaugerules.proofs.RegisterLaws.{on_register}
@@ -84,7 +84,7 @@ select_flash = selects_flash
 -- ---- a block is loaded
 
 module _ (l : Layout) (image : List ℕ) (g : Gauge) (i b s k : ℕ) (o : Good l image g) (a : general_access g ≡ true) (hi : i ≤ max_byte) (hb : b ≤ max_byte)
-    (p : find_block l (length image) i b ≡ Lookup.Found s k) where
+    (p : find_block l (length image) i b ≡ found s k) where
   both_bytes : Bytes (i ∷ b ∷ [])
   both_bytes zero = hi
   both_bytes (suc j) = one_byte b hb j
@@ -121,7 +121,7 @@ reads_window g (suc n) o w h =
     rw (window_register o (omega arith), drop-cons g.window o 0 (omega arith), next, ih)
 
 module _ (l : Layout) (image : List ℕ) (g : Gauge) (i b s k : ℕ) (o : Good l image g) (a : general_access g ≡ true) (hi : i ≤ max_byte) (hb : b ≤ max_byte)
-    (p : find_block l (length image) i b ≡ Lookup.Found s k) (at n : ℕ) (buffer : List ℕ) (some : 1 ≤ n) (end : at + n ≤ k) (room : n ≤ length buffer) where
+    (p : find_block l (length image) i b ≡ found s k) (at n : ℕ) (buffer : List ℕ) (some : 1 ≤ n) (end : at + n ≤ k) (room : n ≤ length buffer) where
   abbrev h : Gauge
   h = block_selected l image g i b
 
@@ -171,7 +171,7 @@ runs_edits l image (b ∷ bs) g o n e h =
 
 module _ (l : Layout) (image : List ℕ) (g : Gauge) (i b s k : ℕ) (good : Good l image g) (a : general_access g ≡ true) (supplied : has_low_supply g ≡ false)
     (hi : i ≤ max_byte) (hb : b ≤ max_byte)
-    (p : find_block l (length image) i b ≡ Lookup.Found s k) (o : ℕ) (bs : List ℕ) (bytes : Bytes bs) (some : 1 ≤ length bs) (end : o + length bs ≤ k)
+    (p : find_block l (length image) i b ≡ found s k) (o : ℕ) (bs : List ℕ) (bytes : Bytes bs) (some : 1 ≤ length bs) (end : o + length bs ≤ k)
     (may : MayLeave l image g (sets image (s + o) bs)) where
   abbrev loaded : Gauge
   loaded = block_selected l image g i b
@@ -179,7 +179,7 @@ module _ (l : Layout) (image : List ℕ) (g : Gauge) (i b s k : ℕ) (good : Goo
   abbrev edited : Gauge
   edited = block_edited l image g i b o bs
 
-  is_loaded_lem : loaded_of loaded.loaded ≡ Loaded.Block i b
+  is_loaded_lem : loaded_of loaded.loaded ≡ block_loaded i b
   is_loaded_lem = load_view (unload (with_class g i)) b i b (as_loaded (block_bytes l image i b)) hi hb
 
   editable : edit_error loaded ≡ 0

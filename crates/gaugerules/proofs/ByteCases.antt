@@ -8,6 +8,8 @@ use mathlib.Core.List.{List}
 use lib.Dec.{eqb, leb}
 use lib.ListN.{length, set}
 use borrow.Author.Tests.{eqb-true, leb-true}
+use Rattle.flashrules.specs.Error.{number}
+use Rattle.flashrules.specs.Answer.{found}
 use Rattle.flashrules.specs.Error.{sealed_register, unknown_block, invalid_control}
 use Rattle.flashrules.specs.Outcome.{Outcome, outcome}
 use Rattle.flashrules.specs.Choice.{differing}
@@ -15,7 +17,6 @@ use Rattle.flashrules.specs.Layout.{info_class}
 use Rattle.flashrules.specs.Lookup.{find_block}
 use Rattle.flashrules.specs.Image.{block_bytes, as_loaded}
 use Rattle.flashrules.specs.declared.layout.Layout.{Layout}
-use Rattle.flashrules.specs.declared.lookup.Lookup.{Lookup}
 use Rattle.flashrules.proofs.Picks.{and_first, and_rest, on_test, on_answer, on_cond}
 use Rattle.gaugerules.specs.State.{boot_sealed, no_word, control_info, info_blocks, is_sealed, is_full_access, none_pending, general_access}
 use Rattle.gaugerules.specs.State.{with_control, with_class, with_window, restart, unload, load}
@@ -24,9 +25,9 @@ use Rattle.gaugerules.specs.Word.{status_word, seal_word, reset_word, key_wanted
 use Rattle.gaugerules.specs.Transfer.{byte_written, accept, refuse, set_class, load_block, selects_info, select_block, edit_error, edit, commit_error, committed, set_control}
 use Rattle.gaugerules.specs.Write.{commit}
 use Rattle.gaugerules.specs.declared.state.Gauge.{Gauge}
-use Rattle.gaugerules.specs.declared.answer.ByteWritten.{ByteWritten}
+use Rattle.gaugerules.specs.Answer.{ByteAnswer}
 
-module _ (P : ByteWritten → Type 0) (g : Gauge) (byte : ℕ) where
+module _ (P : ByteAnswer → Type 0) (g : Gauge) (byte : ℕ) where
   pub on_class : P (refuse sealed_register g) → (is_sealed g ≡ false → P (accept (unload (with_class g byte)))) → P (set_class g byte)
   unfolding set_class
   on_class refused accepted = on_cond P (is_sealed g) _ _ (λ _. refused) accepted
@@ -42,10 +43,10 @@ module _ (P : ByteWritten → Type 0) (g : Gauge) (byte : ℕ) where
   on_edit k accepted refused = on_cond P (eqb (edit_error g) 0) _ _ (λ e. accepted (eqb-true _ _ e)) (λ _. refused)
 
   module _ (l : Layout) (image : List ℕ) where
-    pub on_load : (i b : ℕ) → ((s k : ℕ) → find_block l (length image) i b ≡ Lookup.Found s k → P (accept (load g byte i b (as_loaded (block_bytes l image i b)))))
+    pub on_load : (i b : ℕ) → ((s k : ℕ) → find_block l (length image) i b ≡ found s k → P (accept (load g byte i b (as_loaded (block_bytes l image i b)))))
         → ((e : ℕ) → P (refuse e g)) → P (load_block l image g byte i b)
     unfolding load_block
-    on_load i b accepted refused = on_answer (find_block l (length image) i b) (λ s k p. rw p (accepted s k p)) (λ e p. rw p (refused e))
+    on_load i b accepted refused = on_answer (find_block l (length image) i b) (λ s k p. rw p (accepted s k p)) (λ e p. rw p (refused (number e)))
 
     pub on_select : (general_access g ≡ true → P (load_block l image g byte g.class byte))
         → (1 ≤ byte → byte ≤ info_blocks → P (load_block l image g byte info_class (byte - 1))) → P (refuse unknown_block g) → P (select_block l image g byte)
@@ -54,7 +55,7 @@ module _ (P : ByteWritten → Type 0) (g : Gauge) (byte : ℕ) where
         on_cond P (general_access g) _ _ general (λ _.
         on_cond P (selects_info byte) _ _ (λ t. info (search (and_first, leb-true)) (search (and_first, and_rest, leb-true))) (λ _. refused))
 
-pub on_commit : (P : Outcome ByteWritten (List ℕ) → Type 0) (l : Layout) (image : List ℕ) (g : Gauge) (byte : ℕ)
+pub on_commit : (P : Outcome ByteAnswer (List ℕ) → Type 0) (l : Layout) (image : List ℕ) (g : Gauge) (byte : ℕ)
     → (commit_error l image g byte ≡ 0 → let to = committed l image g in P (outcome (byte_written 0 (differing image to) g) to))
     → P (outcome (refuse (commit_error l image g byte) g) image) → P (commit l image g byte)
 unfolding commit

@@ -20,8 +20,8 @@ use Rattle.gaugerules.specs.Write.{write_at, write_byte, written, write_bytes}
 use Rattle.gaugerules.specs.Laws.{RefusedByte, BytesStand, OnlyCommit, ByteChanged}
 use Rattle.gaugerules.specs.declared.state.Gauge.{Gauge}
 use Rattle.gaugerules.specs.declared.register.Register.{Register}
-use Rattle.gaugerules.specs.declared.answer.ByteWritten.{ByteWritten}
-use Rattle.gaugerules.specs.declared.answer.Written.{Written}
+use Rattle.gaugerules.specs.Answer.{ByteAnswer}
+use Rattle.gaugerules.specs.Answer.{WriteAnswer}
 use Rattle.gaugerules.proofs.RegisterLaws.{on_register}
 use Rattle.gaugerules.proofs.ByteCases.{on_class, on_control, on_edit, on_load, on_select, on_commit}
 
@@ -29,7 +29,7 @@ use Rattle.gaugerules.proofs.ByteCases.{on_class, on_control, on_edit, on_load, 
 
 module _ (l : Layout) (image : List ℕ) (g : Gauge) (byte : ℕ) where
   -- the gauge is as it was, if the step is a refusal
-  abbrev Unaltered : ByteWritten → Type 0
+  abbrev Unaltered : ByteAnswer → Type 0
   Unaltered s = (s.error ≡ 0 → ⊥) → s.gauge ≡ g
 
   by_accept : (c : Gauge) → Unaltered (accept c)
@@ -53,7 +53,7 @@ module _ (l : Layout) (image : List ℕ) (g : Gauge) (byte : ℕ) where
   refused_at Register.DataFlashBlock n = (select_unaltered n, refl)
   refused_at (Register.BlockData k) n = (on_edit Unaltered g byte k (λ _. by_accept _) (by_refuse (edit_error g)) n, refl)
   refused_at Register.BlockDataChecksum n =
-      on_commit (λ (s : Outcome ByteWritten (List ℕ)). (s.answer.error ≡ 0 → ⊥) → (s.answer.gauge ≡ g) × (s.lent ≡ image)) l image g byte
+      on_commit (λ (s : Outcome ByteAnswer (List ℕ)). (s.answer.error ≡ 0 → ⊥) → (s.answer.gauge ≡ g) × (s.lent ≡ image)) l image g byte
       (λ _ z. absurd (z refl)) (λ _. (refl, refl)) n
   refused_at Register.BlockDataControl n =
       (on_control Unaltered g byte (by_refuse sealed_register) (λ _ _. by_accept _) (by_refuse invalid_control) n, refl)
@@ -66,7 +66,7 @@ refused_byte l image g r byte = refused_at l image g byte (register_of r)
 -- ---- how many bytes of the image a byte changes
 
 module _ (l : Layout) (image : List ℕ) (g : Gauge) (byte : ℕ) where
-  abbrev Unchanged : ByteWritten → Type 0
+  abbrev Unchanged : ByteAnswer → Type 0
   Unchanged s = s.changed ≡ differing image image
 
   none : ◌≡◌ {A = ℕ} 0 (differing image image)
@@ -83,7 +83,7 @@ module _ (l : Layout) (image : List ℕ) (g : Gauge) (byte : ℕ) where
   changed_at Register.DataFlashBlock = on_select Unchanged g byte l image (λ _. loads_none g.class byte) (λ _ _. loads_none info_class (byte - 1)) none
   changed_at (Register.BlockData k) = on_edit Unchanged g byte k (λ _. none) none
   changed_at Register.BlockDataChecksum =
-      on_commit (λ (s : Outcome ByteWritten (List ℕ)). s.answer.changed ≡ differing image s.lent) l image g byte (λ _. refl) none
+      on_commit (λ (s : Outcome ByteAnswer (List ℕ)). s.answer.changed ≡ differing image s.lent) l image g byte (λ _. refl) none
   changed_at Register.BlockDataControl = on_control Unchanged g byte none (λ _ _. none) none
   changed_at Register.Other = none
 
@@ -100,7 +100,7 @@ unchanged l image g r byte e = byte_changed l image g r byte ∙ ap (differing i
 
 -- of bytes before which n were accepted, `count` more are; sent alone they leave what all of them
 -- leave
-record Stands (l : Layout) (image : List ℕ) (g : Gauge) (r n c : ℕ) (bytes : List ℕ) (w : Outcome Written (List ℕ)) : Type 0 where
+record Stands (l : Layout) (image : List ℕ) (g : Gauge) (r n c : ℕ) (bytes : List ℕ) (w : Outcome WriteAnswer (List ℕ)) : Type 0 where
   count : ℕ
   accepted : w.answer.accepted ≡ n + count
   stands : write_bytes l image g r n c (take count bytes) ≡ outcome (written 0 w.answer.accepted w.answer.changed w.answer.gauge) w.lent

@@ -19,8 +19,8 @@ use Rattle.gaugerules.specs.Transfer.{committed, commit_error}
 use Rattle.gaugerules.specs.Write.{write_at, write_byte, write_bytes, call_error, write}
 use Rattle.gaugerules.specs.Laws.{WriteChanged, ChangedNone, ChangedMost}
 use Rattle.gaugerules.specs.declared.state.Gauge.{Gauge}
-use Rattle.gaugerules.specs.declared.answer.ByteWritten.{ByteWritten}
-use Rattle.gaugerules.specs.declared.answer.Written.{Written}
+use Rattle.gaugerules.specs.Answer.{ByteAnswer}
+use Rattle.gaugerules.specs.Answer.{WriteAnswer}
 use Rattle.gaugerules.proofs.LoadedLaws.{committable}
 use Rattle.gaugerules.proofs.ByteCases.{on_commit}
 use Rattle.gaugerules.proofs.ByteLaws.{only_commit, byte_changed, unchanged}
@@ -49,7 +49,7 @@ module _ (l : Layout) (image : List ℕ) (g : Gauge) (byte : ℕ) (h : Whole g) 
       on_test (eqb r block_data_checksum)
       (λ at.
       rw (eqb-true r block_data_checksum at)
-      (on_commit (λ (s : Outcome ByteWritten (List ℕ)). Few image s.lent) l image g byte commit_few (few_none image)))
+      (on_commit (λ (s : Outcome ByteAnswer (List ℕ)). Few image s.lent) l image g byte commit_few (few_none image)))
       (λ at. rw (only_commit l image g r byte (eqb-false r block_data_checksum at)) (few_none image))
 
 -- and so it answers
@@ -60,15 +60,15 @@ byte_most l image g r byte h = omega (arith, byte_changed l image g r byte, byte
 -- ---- the bytes of a write
 
 -- what is claimed of a run before which c bytes were changed
-record Counts (image : List ℕ) (c : ℕ) (w : Outcome Written (List ℕ)) : Type 0 where
+record Counts (image : List ℕ) (c : ℕ) (w : Outcome WriteAnswer (List ℕ)) : Type 0 where
   changed : w.answer.changed ≡ c + differing image w.lent
   few : Few image w.lent
 
 module _ (l : Layout) (bs image : List ℕ) (g : Gauge) (r n c b : ℕ) (h : Whole g) where
-  abbrev s : Outcome ByteWritten (List ℕ)
+  abbrev s : Outcome ByteAnswer (List ℕ)
   s = write_byte l image g r b
 
-  abbrev rest : Outcome Written (List ℕ)
+  abbrev rest : Outcome WriteAnswer (List ℕ)
   rest = write_bytes l s.lent s.answer.gauge (r + 1) (n + 1) (c + s.answer.changed) bs
 
   -- the byte at 0x60: the bytes after it leave the image

@@ -23,7 +23,7 @@ use Rattle.gaugerules.specs.Transfer.{byte_written, refuse, is_protected, change
 use Rattle.gaugerules.specs.Write.{commit, write_at, write_byte}
 use Rattle.gaugerules.specs.Laws.{commits, Committed, CommitRule}
 use Rattle.gaugerules.specs.declared.state.Gauge.{Gauge}
-use Rattle.gaugerules.specs.declared.state.Loaded.{Loaded}
+use Rattle.gaugerules.specs.State.{block_loaded}
 use Rattle.gaugerules.proofs.LoadedLaws.{none_holds, committable, matches, leaves_keys, well_supplied}
 use Rattle.gaugerules.proofs.ValidLaws.{Valid, valid_parts}
 
@@ -47,14 +47,14 @@ commit_error_lem l image g byte =
 
 module _ (l : Layout) (image : List ℕ) (g : Gauge) (byte : ℕ) where
   -- the loaded block of a valid gauge exists, so the lookup finds it, and what is found has bytes
-  loaded_some : fits l (length image) ≡ true → loaded_valid l g ≡ true → (i b : ℕ) → loaded_of g.loaded ≡ Loaded.Block i b
+  loaded_some : fits l (length image) ≡ true → loaded_valid l g ≡ true → (i b : ℕ) → loaded_of g.loaded ≡ block_loaded i b
       → 1 ≤ length_of (find_block l (length image) i b)
   loaded_some f v i b p =
       let exists = rw p at v in
       on_answer (find_block l (length image) i b) (λ s k q. rw q (block_inside l (length image) i b s k q).some)
       (λ e q. absurd (true≢false (sym exists ∙ rw q at (exists_found l (length image) i b f))))
 
-  stored : fits l (length image) ≡ true → Valid l g → (i b : ℕ) → loaded_of g.loaded ≡ Loaded.Block i b → Committed l image g (committed l image g)
+  stored : fits l (length image) ≡ true → Valid l g → (i b : ℕ) → loaded_of g.loaded ≡ block_loaded i b → Committed l image g (committed l image g)
   unfolding committed
   stored f v i b p =
       rw p

@@ -1,6 +1,6 @@
 -- Which error a byte has: register by register, the rules answer what the rows of the table say.
 use Prim.Native.Nat.{ℕ, ◌+◌, ◌-◌, ◌*◌, ◌≤◌, ◌<◌}
-use mathlib.Core.Path.{◌≡◌, refl}
+use mathlib.Core.Path.{◌≡◌, refl, ap}
 use mathlib.Core.Logic.{◌⊎◌, inl, inr, ⊎_elim}
 use mathlib.Core.Bool.{true, false}
 use mathlib.Core.List.{List}
@@ -9,7 +9,7 @@ use lib.Dec.{eqb, leb, ltb}
 use lib.ListN.{length}
 use borrow.Author.Tests.{ne_eqb, le-leb, lt-leb}
 use Rattle.checksum.specs.Checksum.{checksum}
-use Rattle.flashrules.specs.Error.{unknown_block, protected_keys, low_supply}
+use Rattle.flashrules.specs.Error.{number, unknown_block, protected_keys, low_supply}
 use Rattle.flashrules.specs.Refusal.{first_error}
 use Rattle.flashrules.specs.Outcome.{outcome}
 use Rattle.flashrules.specs.Layout.{info_class, classes, locate, fits}
@@ -76,7 +76,7 @@ module _ (l : Layout) (image : List ℕ) (g : Gauge) (byte : ℕ) (f : fits l (l
       let v = (fits_parts l (length image) f).0 in
       on_answer (locate 0 (classes l) g.class)
       (λ s k q. on_test (ltb (block_size * byte) k) (λ u. rw (a, f, v, q, u)) (λ u. rw (a, f, v, q, u)))
-      (λ e q. rw (a, f, v, q) (locate_refused 0 (classes l) g.class e q))
+      (λ e q. rw (a, f, v, q) (ap number (locate_refused 0 (classes l) g.class e q)))
 
   select_general : general_access g ≡ true → select_block l image g byte ≡ load_block l image g byte g.class byte
   unfolding select_block

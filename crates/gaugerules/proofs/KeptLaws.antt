@@ -14,7 +14,7 @@ use Rattle.gaugerules.specs.Transfer.{load_block}
 use Rattle.gaugerules.specs.Write.{write_at, write_byte}
 use Rattle.gaugerules.specs.declared.state.Gauge.{Gauge}
 use Rattle.gaugerules.specs.declared.register.Register.{Register}
-use Rattle.gaugerules.specs.declared.answer.ByteWritten.{ByteWritten}
+use Rattle.gaugerules.specs.Answer.{ByteAnswer}
 use Rattle.gaugerules.proofs.RegisterLaws.{on_register}
 use Rattle.gaugerules.proofs.ByteCases.{on_class, on_control, on_edit, on_load, on_select, on_commit}
 
@@ -27,7 +27,7 @@ module _ {A : Type 0} (part : Gauge → A) where
     pub window : (g : Gauge) (w : List ℕ) → part (with_window g w) ≡ part g
 
   module _ (u : Untouched) (l : Layout) (image : List ℕ) (g : Gauge) (byte : ℕ) where
-    abbrev Keeps : ByteWritten → Type 0
+    abbrev Keeps : ByteAnswer → Type 0
     Keeps s = part s.gauge ≡ part g
 
     load_keeps : (i b : ℕ) → Keeps (load_block l image g byte i b)
@@ -41,6 +41,6 @@ module _ {A : Type 0} (part : Gauge → A) where
         (λ _. on_class Keeps g byte refl (λ _. u.class g byte))
         (λ _. on_select Keeps g byte l image (λ _. load_keeps g.class byte) (λ _ _. load_keeps info_class (byte - 1)) refl)
         (λ k _ _. on_edit Keeps g byte k (λ _. u.window g _) refl)
-        (λ _. on_commit (λ (s : Outcome ByteWritten (List ℕ)). Keeps s.answer) l image g byte (λ _. refl) refl)
+        (λ _. on_commit (λ (s : Outcome ByteAnswer (List ℕ)). Keeps s.answer) l image g byte (λ _. refl) refl)
         (λ _. on_control Keeps g byte refl (λ _ _. u.control g byte) refl)
         (λ _ _. refl)

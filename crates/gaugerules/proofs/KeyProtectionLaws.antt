@@ -12,14 +12,13 @@ use lib.ListN.{length, take}
 use lib.Seq.{take-take}
 use borrow.Author.Tests.{eqb-true, eqb-false, leb-true, leb-false, eq-eqb, not-true}
 use Rattle.flashrules.specs.Outcome.{Outcome, outcome}
-use Rattle.flashrules.specs.Answer.{length_of}
+use Rattle.flashrules.specs.Answer.{found, length_of}
 use Rattle.flashrules.specs.Choice.{differing}
 use Rattle.flashrules.specs.Layout.{info_class, key_class, fits}
 use Rattle.flashrules.specs.Lookup.{find_block}
 use Rattle.flashrules.specs.Image.{block_bytes}
 use Rattle.flashrules.specs.Laws.{Within, SameClasses}
 use Rattle.flashrules.specs.declared.layout.Layout.{Layout}
-use Rattle.flashrules.specs.declared.lookup.Lookup.{Lookup}
 use Rattle.flashrules.proofs.Laws.{block_inside, blocks_apart, key_block_lem, store_here, store_elsewhere, differing_none}
 use Rattle.flashrules.proofs.LayoutLaws.{fits_parts}
 use Rattle.flashrules.proofs.PartLaws.{part_same}
@@ -34,8 +33,8 @@ use Rattle.gaugerules.specs.Script.{Device, device, Call, to_write, to_read, to_
 use Rattle.gaugerules.specs.Noninterference.{Agree, Kept}
 use Rattle.gaugerules.specs.KeyProtection.{KeyChange, never_full_access, KeysKept}
 use Rattle.gaugerules.specs.declared.state.Gauge.{Gauge}
-use Rattle.gaugerules.specs.declared.state.Loaded.{Loaded}
-use Rattle.gaugerules.specs.declared.answer.ByteWritten.{ByteWritten}
+use Rattle.gaugerules.specs.State.{block_loaded}
+use Rattle.gaugerules.specs.Answer.{ByteAnswer}
 use Rattle.gaugerules.proofs.Picks.{on_loaded}
 use Rattle.gaugerules.proofs.LoadedLaws.{loaded_is, leaves_keys}
 use Rattle.gaugerules.proofs.ByteCases.{on_commit}
@@ -51,7 +50,7 @@ use Rattle.gaugerules.proofs.Noninterference.{sealed_noninterference}
 -- what the test of 16 says
 record KeyChanged (l : Layout) (image : List ℕ) (g : Gauge) : Type 0 where
   mode : is_unsealed g ≡ true
-  loaded : loaded_of g.loaded ≡ Loaded.Block key_class key_block
+  loaded : loaded_of g.loaded ≡ block_loaded key_class key_block
   other : not (eqb (differing (key_bytes l image) (take keys_end g.window)) 0) ≡ true
 
 changed_parts : (l : Layout) (image : List ℕ) (g : Gauge) → changes_keys l image g ≡ true → KeyChanged l image g
@@ -63,14 +62,14 @@ changed_parts l image g c =
 
 -- keys that a store changes are those of the window
 module _ (l : Layout) (image : List ℕ) (g : Gauge) (f : fits l (length image) ≡ true) (h : Whole g) where
-  key_stored : loaded_of g.loaded ≡ Loaded.Block key_class key_block → key_bytes l (committed l image g) ≡ take keys_end g.window
+  key_stored : loaded_of g.loaded ≡ block_loaded key_class key_block → key_bytes l (committed l image g) ≡ take keys_end g.window
   unfolding committed
   key_stored p =
       let v = fits_parts l (length image) f in
       let long : keys_end ≤ length_of (find_block l (length image) key_class key_block) = rw v.1 (omega (arith, key_block_lem l v.0)) in
       rw (p, store_here l image key_class key_block g.window h) (take-take keys_end _ g.window long)
 
-  other_stored : (i b : ℕ) → loaded_of g.loaded ≡ Loaded.Block i b → ((i ≡ key_class) × (b ≡ key_block) → ⊥)
+  other_stored : (i b : ℕ) → loaded_of g.loaded ≡ block_loaded i b → ((i ≡ key_class) × (b ≡ key_block) → ⊥)
       → key_bytes l (committed l image g) ≡ key_bytes l image
   unfolding committed
   other_stored i b p d = rw (p, store_elsewhere l image i b g.window h key_class key_block d)
@@ -85,7 +84,7 @@ module _ (l : Layout) (image : List ℕ) (g : Gauge) (f : fits l (length image) 
       (λ e.
       on_test (eqb b key_block)
       (λ e'.
-      let at : loaded_of g.loaded ≡ Loaded.Block key_class key_block = p ∙ rw (eqb-true i key_class e, eqb-true b key_block e') in
+      let at : loaded_of g.loaded ≡ block_loaded key_class key_block = p ∙ rw (eqb-true i key_class e, eqb-true b key_block e') in
       on_test (eqb (differing (key_bytes l image) (take keys_end g.window)) 0)
       (λ z. key_stored at ∙ sym ((differing_none _ _).0 (eqb-true _ _ z)))
       (λ z. absurd (true≢false (rw (u, p, e, e', z) at n))))
@@ -108,7 +107,7 @@ key_change l image g f v =
 -- ---- a run of an unsealed gauge
 
 module _ (l : Layout) (image : List ℕ) (g : Gauge) (r b : ℕ) (f : fits l (length image) ≡ true) (h : Whole g) (u : is_unsealed g ≡ true) where
-  abbrev KeepsKeys : Outcome ByteWritten (List ℕ) → Type 0
+  abbrev KeepsKeys : Outcome ByteAnswer (List ℕ) → Type 0
   KeepsKeys s = key_bytes l s.lent ≡ key_bytes l image
 
   byte_unsealed : KeepsKeys (write_byte l image g r b)
@@ -150,7 +149,7 @@ kept_keys l start image k =
     (part_same image start s n (rw k.size in_start) in_start (λ j h. k.outside (s + j) (apart s n p j h block_b) (apart s n p j h block_c)))))
     (λ e p. rw p))
   where
-    apart : (s n : ℕ) → find_block l (length start) key_class key_block ≡ Lookup.Found s n → (j : ℕ) → j < n → (b : ℕ)
+    apart : (s n : ℕ) → find_block l (length start) key_class key_block ≡ found s n → (j : ℕ) → j < n → (b : ℕ)
         → Within (find_block l (length start) info_class b) (s + j) → ⊥
     apart s n p j h b =
         on_answer (find_block l (length start) info_class b)

@@ -17,11 +17,11 @@ use Rattle.flashrules.proofs.Picks.{and_first, and_rest}
 use Rattle.gaugerules.specs.State.{no_block, info_blocks, has_low_supply, packed, loaded_of, none_loaded, is_loaded, load}
 use Rattle.gaugerules.specs.Transfer.{selects_info, is_protected, edit_tests, edit_error, changes_keys, commit_tests, commit_error}
 use Rattle.gaugerules.specs.declared.state.Gauge.{Gauge}
-use Rattle.gaugerules.specs.declared.state.Loaded.{Loaded}
+use Rattle.gaugerules.specs.State.{block_loaded}
 use Rattle.gaugerules.proofs.Picks.{on_loaded}
 
 -- class and block are bytes, so both come out of the packed number again
-pub load_view : (g : Gauge) (byte i b : ℕ) (w : List ℕ) → i ≤ max_byte → b ≤ max_byte → loaded_of (load g byte i b w).loaded ≡ Loaded.Block i b
+pub load_view : (g : Gauge) (byte i b : ℕ) (w : List ℕ) → i ≤ max_byte → b ≤ max_byte → loaded_of (load g byte i b w).loaded ≡ block_loaded i b
 unfolding loaded_of
 load_view g byte i b w hi hb =
     let class : packed i b / 256 % 256 ≡ i = omega arith in
@@ -29,7 +29,7 @@ load_view g byte i b w hi hb =
     rw (ne_eqb (packed i b) no_block (omega arith), class, block)
 
 -- the test for one block
-pub loaded_is : (g : Gauge) (i b : ℕ) → is_loaded g i b ≡ true → loaded_of g.loaded ≡ Loaded.Block i b
+pub loaded_is : (g : Gauge) (i b : ℕ) → is_loaded g i b ≡ true → loaded_of g.loaded ≡ block_loaded i b
 loaded_is g i b t =
     on_loaded (loaded_of g.loaded) (λ p. absurd (true≢false (sym (rw p at t))))
     (λ j c p.
@@ -46,7 +46,7 @@ info_picked byte t = let p : (1 ≤ byte) × (byte ≤ info_blocks) = search (an
 pub record Editable (g : Gauge) : Type 0 where
   pub class : ℕ
   pub block : ℕ
-  pub loaded : loaded_of g.loaded ≡ Loaded.Block class block
+  pub loaded : loaded_of g.loaded ≡ block_loaded class block
   pub free : is_protected g ≡ false
 
 is_loaded_lem : (g : Gauge) → none_loaded g ≡ false → is_protected g ≡ false → Editable g

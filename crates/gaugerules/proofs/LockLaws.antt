@@ -19,7 +19,7 @@ use Rattle.gaugerules.specs.Transfer.{accept}
 use Rattle.gaugerules.specs.Write.{write_at, write_byte, write_bytes, call_error, write}
 use Rattle.gaugerules.specs.Script.{made}
 use Rattle.gaugerules.specs.declared.state.Gauge.{Gauge}
-use Rattle.gaugerules.specs.declared.answer.Written.{Written}
+use Rattle.gaugerules.specs.Answer.{WriteAnswer}
 use Rattle.gaugerules.proofs.KeptLaws.{Untouched, byte_keeps_part}
 use Rattle.gaugerules.proofs.RunLaws.{goes_on, ends_after_word}
 
@@ -102,7 +102,7 @@ module _ (l : Layout) (image : List ℕ) (B : ℕ → Type 0) (K : Gauge → Typ
   Sends bytes = (j : ℕ) → B (get_or bytes j 0)
 
   module _ (g : Gauge) (k : K g) where
-    abbrev pub After : ℕ → List ℕ → Outcome Written (List ℕ) → Type 0
+    abbrev pub After : ℕ → List ℕ → Outcome WriteAnswer (List ℕ) → Type 0
     After r bytes w = P (made g.low r (take w.answer.accepted bytes)) (lock w.answer.gauge)
 
     runs_low : (bytes : List ℕ) → Sends bytes → After control_low bytes (write_bytes l image g control_low 0 0 bytes)

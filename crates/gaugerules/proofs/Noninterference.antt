@@ -35,10 +35,11 @@ use Rattle.gaugerules.specs.Supply.{set_supply}
 use Rattle.gaugerules.specs.Script.{Device, device, Call, to_write, to_read, to_supply, reply, after_call, unseals}
 use Rattle.gaugerules.specs.Noninterference.{Agree, Kept, Indistinguishable, SealedNoninterference, Noninterference}
 use Rattle.gaugerules.specs.declared.state.Gauge.{Gauge}
-use Rattle.gaugerules.specs.declared.state.Loaded.{Loaded}
+use Rattle.gaugerules.specs.State.{Loaded, block_loaded}
+use Rattle.std.specs.Prelude.{None}
 use Rattle.gaugerules.specs.declared.register.Register.{Register}
-use Rattle.gaugerules.specs.declared.answer.ByteWritten.{ByteWritten}
-use Rattle.gaugerules.specs.declared.answer.Written.{Written}
+use Rattle.gaugerules.specs.Answer.{ByteAnswer}
+use Rattle.gaugerules.specs.Answer.{WriteAnswer}
 use Rattle.gaugerules.proofs.Picks.{on_loaded}
 use Rattle.gaugerules.proofs.LoadedLaws.{load_view, info_picked, Editable, committable}
 use Rattle.gaugerules.proofs.ByteCases.{on_edit, on_load}
@@ -53,17 +54,17 @@ use Rattle.gaugerules.proofs.SameLayouts.{same_reply, same_after}
 record InfoBlock (a : Loaded) : Type 0 where
   number : ℕ
   few : number < info_blocks
-  is : a ≡ Loaded.Block info_class number
+  is : a ≡ block_loaded info_class number
 
 abbrev InfoLoaded : Gauge → Type 0
-InfoLoaded g = (loaded_of g.loaded ≡ Loaded.None) ⊎ InfoBlock (loaded_of g.loaded)
+InfoLoaded g = (loaded_of g.loaded ≡ None) ⊎ InfoBlock (loaded_of g.loaded)
 
 record Quiet (g : Gauge) : Type 0 where
   is_sealed_lem : is_sealed g ≡ true
   info : InfoLoaded g
   whole : length g.window ≡ block_size
 
-none_not_block : (i b : ℕ) → Loaded.None ≡ Loaded.Block i b → ⊥
+none_not_block : (i b : ℕ) → None ≡ block_loaded i b → ⊥
 none_not_block i b p = let z : ◌≡◌ {A = ℕ} 0 1 = cc in omega arith
 
 info_loaded : (g : Gauge) → only_info_loaded g ≡ true → InfoLoaded g
@@ -72,7 +73,7 @@ info_loaded g e =
     (λ i b p.
     let t : and (eqb i info_class ∷ ltb b info_blocks ∷ []) ≡ true = rw p at e in
     let q : (i ≡ info_class) × (b < info_blocks) = search (and_first, and_rest, eqb-true, ltb-true) in
-    inr (record { number = b; few = q.1; is = p ∙ ap (λ (k : ℕ). Loaded.Block k b) q.0 }))
+    inr (record { number = b; few = q.1; is = p ∙ ap (λ (k : ℕ). block_loaded k b) q.0 }))
 
 valid_quiet : (l : Layout) (g : Gauge) → valid l g ≡ true → is_sealed g ≡ true → Quiet g
 valid_quiet l g e s =
@@ -80,7 +81,7 @@ valid_quiet l g e s =
     let t : and (eqb g.control control_info ∷ only_info_loaded g ∷ []) ≡ true = rw s at v.sealed in
     record { is_sealed_lem = s; info = info_loaded g (search (and_first, and_rest)); whole = v.range.window }
 
-unloaded : loaded_of no_block ≡ Loaded.None
+unloaded : loaded_of no_block ≡ None
 unfolding loaded_of
 unloaded = refl
 
@@ -138,7 +139,7 @@ module _ (g : Gauge) (byte : ℕ) (q : Quiet g) where
   unfolding set_control
   control_refused = rw q.is_sealed_lem
 
-  abbrev ToQuiet : ByteWritten → Type 0
+  abbrev ToQuiet : ByteAnswer → Type 0
   ToQuiet s = Quiet s.gauge
 
   edit_quiet : (k : ℕ) → ToQuiet (edit g k byte)
@@ -178,7 +179,7 @@ module _ (g : Gauge) (byte : ℕ) (q : Quiet g) where
         (on_test (selects_info byte) (λ t. rw t (load_same image₁ image₂ info_class (byte - 1) e (a.info (byte - 1) (info_picked byte t)))) (λ t. rw t))
 
   -- a commit is of block B or C: block A of a sealed gauge is protected
-  commit_into : Editable g → (b : ℕ) → loaded_of g.loaded ≡ Loaded.Block info_class b → b < info_blocks → (b ≡ block_b) ⊎ (b ≡ block_c)
+  commit_into : Editable g → (b : ℕ) → loaded_of g.loaded ≡ block_loaded info_class b → b < info_blocks → (b ≡ block_b) ⊎ (b ≡ block_c)
   unfolding is_protected
   commit_into e b p h =
       on_test (eqb b block_a) (λ a. absurd (true≢false (rw (q.is_sealed_lem, p, a) at e.free)))
@@ -269,12 +270,12 @@ module _ (l : Layout) (start₁ start₂ : List ℕ) where
 
   -- ---- one byte
 
-  abbrev BothBytes : Outcome ByteWritten (List ℕ) → Outcome ByteWritten (List ℕ) → Type 0
-  BothBytes s₁ s₂ = Both ByteWritten (λ b. b.gauge) s₁ s₂
+  abbrev BothBytes : Outcome ByteAnswer (List ℕ) → Outcome ByteAnswer (List ℕ) → Type 0
+  BothBytes s₁ s₂ = Both ByteAnswer (λ b. b.gauge) s₁ s₂
 
   module _ (image₁ image₂ : List ℕ) (t : Agreeing image₁ image₂) (g : Gauge) (byte : ℕ) (q : Quiet g) where
     -- the images stay
-    to : {s₁ s₂ : Outcome ByteWritten (List ℕ)} (s : ByteWritten) → s₁ ≡ outcome s image₁ → s₂ ≡ outcome s image₂ → Quiet s.gauge → BothBytes s₁ s₂
+    to : {s₁ s₂ : Outcome ByteAnswer (List ℕ)} (s : ByteAnswer) → s₁ ≡ outcome s image₁ → s₂ ≡ outcome s image₂ → Quiet s.gauge → BothBytes s₁ s₂
     to s p₁ p₂ c = record { answer = s; image₁ = image₁; image₂ = image₂; is₁ = p₁; is₂ = p₂; quiet = c; agreeing = t }
 
     committed_agreeing : Editable g → Agreeing (committed l image₁ g) (committed l image₂ g)
@@ -353,8 +354,8 @@ module _ (l : Layout) (start₁ start₂ : List ℕ) where
 
   -- ---- a write
 
-  abbrev BothRan : Outcome Written (List ℕ) → Outcome Written (List ℕ) → Type 0
-  BothRan w₁ w₂ = Both Written (λ w. w.gauge) w₁ w₂
+  abbrev BothRan : Outcome WriteAnswer (List ℕ) → Outcome WriteAnswer (List ℕ) → Type 0
+  BothRan w₁ w₂ = Both WriteAnswer (λ w. w.gauge) w₁ w₂
 
   -- what is claimed of the runs over bs
   abbrev SameRuns : List ℕ → Type 0

@@ -9,8 +9,9 @@ use Rattle.flashrules.proofs.Picks.{pick_last}
 use Rattle.gaugerules.specs.State.{if_loaded}
 use Rattle.gaugerules.specs.Transfer.{accept, refuse}
 use Rattle.gaugerules.specs.declared.state.Gauge.{Gauge}
-use Rattle.gaugerules.specs.declared.state.Loaded.{Loaded}
-use Rattle.gaugerules.specs.declared.answer.ByteWritten.{ByteWritten}
+use Rattle.gaugerules.specs.State.{Loaded, block_loaded}
+use Rattle.std.specs.Prelude.{None, Some}
+use Rattle.gaugerules.specs.Answer.{ByteAnswer}
 
 -- a refusal by a number that is not the one that a call gave
 module _ {A : Type 0} (z x y : A) (j k v : ℕ) (p : k ≡ j) where
@@ -33,30 +34,30 @@ module _ (j k v : ℕ) (p : k ≡ j) where
 
 -- by what is loaded
 module _ {A : Type 0} (z x : A) (f : ℕ → ℕ → A) (a k : Loaded) (p : k ≡ a) where
-  pub call_none : k ≡ Loaded.None → z ≡ x → z ≡ if_loaded a x f
+  pub call_none : k ≡ None → z ≡ x → z ≡ if_loaded a x f
   call_none q e = rw (← p, q) e
 
-  pub call_block : (i b : ℕ) → k ≡ Loaded.Block i b → z ≡ f i b → z ≡ if_loaded a x f
+  pub call_block : (i b : ℕ) → k ≡ block_loaded i b → z ≡ f i b → z ≡ if_loaded a x f
   call_block i b q e = rw (← p, q) e
 
 -- by whether anything is
 module _ {A : Type 0} (z x y : A) (a k : Loaded) (p : k ≡ a) where
-  pub none_first : k ≡ Loaded.None → z ≡ x → z ≡ cond (if_loaded a true (λ i b. false)) x y
+  pub none_first : k ≡ None → z ≡ x → z ≡ cond (if_loaded a true (λ i b. false)) x y
   none_first q e = rw (← p, q) e
 
-  pub block_first : (i b : ℕ) → k ≡ Loaded.Block i b → z ≡ y → z ≡ cond (if_loaded a true (λ i b. false)) x y
+  pub block_first : (i b : ℕ) → k ≡ block_loaded i b → z ≡ y → z ≡ cond (if_loaded a true (λ i b. false)) x y
   block_first i b q e = rw (← p, q) e
 
 -- a byte's answer with what a call gave
-pub byte_gauge : (s : ByteWritten) (h k : Gauge) → k ≡ h → s ≡ accept k → s ≡ accept h
+pub byte_gauge : (s : ByteAnswer) (h k : Gauge) → k ≡ h → s ≡ accept k → s ≡ accept h
 byte_gauge s h k p e = rw p at e
 
-pub byte_error : (s : ByteWritten) (j k : ℕ) (g : Gauge) → k ≡ j → s ≡ refuse k g → s ≡ refuse j g
+pub byte_error : (s : ByteAnswer) (j k : ℕ) (g : Gauge) → k ≡ j → s ≡ refuse k g → s ≡ refuse j g
 byte_error s j k g p e = rw p at e
 
 pub ruleset byte_rules = (right_eq, right_ne, last_eq, last_ne, last_lt, call_none, call_block, none_first, block_first, byte_gauge, byte_error)
 
 -- a proof by the cases of what is loaded, which keeps what the case says
-pub on_loaded : {P : Type 0} (a : Loaded) → (a ≡ Loaded.None → P) → ((i b : ℕ) → a ≡ Loaded.Block i b → P) → P
-on_loaded Loaded.None f g = f refl
-on_loaded (Loaded.Block i b) f g = g i b refl
+pub on_loaded : {P : Type 0} (a : Loaded) → (a ≡ None → P) → ((i b : ℕ) → a ≡ block_loaded i b → P) → P
+on_loaded None f g = f refl
+on_loaded (Some k) f g = g k.class k.block refl

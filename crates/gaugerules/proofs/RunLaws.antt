@@ -17,12 +17,12 @@ use Rattle.gaugerules.specs.Register.{control_high, registers, register_of}
 use Rattle.gaugerules.specs.Write.{write_at, write_byte, written, write_bytes, bad_span, call_tests, call_error}
 use Rattle.gaugerules.specs.declared.state.Gauge.{Gauge}
 use Rattle.gaugerules.specs.declared.register.Register.{Register}
-use Rattle.gaugerules.specs.declared.answer.ByteWritten.{ByteWritten}
+use Rattle.gaugerules.specs.Answer.{ByteAnswer}
 use Rattle.gaugerules.proofs.RegisterLaws.{on_register}
 
 -- ---- one turn, by what its byte did
 
-module _ (l : Layout) (image : List ℕ) (g : Gauge) (r n c b : ℕ) (bs : List ℕ) (s : ByteWritten) (to : List ℕ)
+module _ (l : Layout) (image : List ℕ) (g : Gauge) (r n c b : ℕ) (bs : List ℕ) (s : ByteAnswer) (to : List ℕ)
     (p : write_byte l image g r b ≡ outcome s to) where
   pub goes_on : eqb s.error 0 ≡ true → write_bytes l image g r n c (b ∷ bs) ≡ write_bytes l to s.gauge (r + 1) (n + 1) (c + s.changed) bs
   unfolding write_bytes outcome

@@ -25,7 +25,7 @@ use Rattle.gaugerules.specs.Script.{Device, Call, to_write, to_read, to_supply, 
 use Rattle.gaugerules.specs.Laws.{SameValid, SameWrite, SameRead, SameSupply}
 use Rattle.gaugerules.specs.declared.state.Gauge.{Gauge}
 use Rattle.gaugerules.specs.declared.register.Register.{Register}
-use Rattle.gaugerules.specs.declared.answer.Written.{Written}
+use Rattle.gaugerules.specs.Answer.{WriteAnswer}
 use Rattle.gaugerules.proofs.Picks.{on_loaded}
 
 pub same_valid : SameValid
@@ -69,7 +69,7 @@ module _ (l l' : Layout) (s : SameClasses l l') where
   same_bytes_run (b ∷ bs) image g r n c =
       let t = write_at (register_of r) l image g b in
       ap
-      (λ (w : Outcome Written (List ℕ)).
+      (λ (w : Outcome WriteAnswer (List ℕ)).
       cond (eqb t.answer.error 0) w (outcome (written t.answer.error n (c + t.answer.changed) t.answer.gauge) t.lent))
       (same_bytes_run bs t.lent t.answer.gauge (r + 1) (n + 1) (c + t.answer.changed))
       ∙ rw (same_at (register_of r) image g b)

@@ -11,7 +11,7 @@ use Rattle.flashrules.proofs.Picks.{on_cond}
 use Rattle.gaugerules.specs.State.{max_supply, with_supply}
 use Rattle.gaugerules.specs.Supply.{supplied, supply_tests, supply_error, set_supply}
 use Rattle.gaugerules.specs.declared.state.Gauge.{Gauge}
-use Rattle.gaugerules.specs.declared.answer.Supplied.{Supplied}
+use Rattle.gaugerules.specs.Answer.{SupplyAnswer}
 use Rattle.gaugerules.proofs.LockLaws.{lock}
 
 module _ (l : Layout) (size : ℕ) (g : Gauge) (millivolts : ℕ) where
@@ -21,7 +21,7 @@ module _ (l : Layout) (size : ℕ) (g : Gauge) (millivolts : ℕ) where
       let t = (no_error (supply_tests l size g millivolts) (omega arith, (omega arith, (omega arith, tt)))).0 e in
       ltb-false max_supply millivolts t.1.1.0
 
-  pub on_supply : (P : Supplied → Type 0) → (millivolts ≤ max_supply → P (supplied 0 (with_supply g millivolts))) → ((e : ℕ) → P (supplied e g))
+  pub on_supply : (P : SupplyAnswer → Type 0) → (millivolts ≤ max_supply → P (supplied 0 (with_supply g millivolts))) → ((e : ℕ) → P (supplied e g))
       → P (set_supply l size g millivolts)
   unfolding set_supply
   on_supply P accepted refused =

@@ -20,7 +20,7 @@ use Rattle.gaugerules.specs.Laws.{Good}
 use Rattle.gaugerules.specs.SupplyLaws.{RestartKeepsSupply, WriteKeepsSupply, SupplySet, SupplyGood, supply_after, ScriptSupply}
 use Rattle.gaugerules.specs.SupplyLaws.{SupplyNeverUnseals, always_low, LowSupplyKeepsImage}
 use Rattle.gaugerules.specs.declared.state.Gauge.{Gauge}
-use Rattle.gaugerules.specs.declared.answer.ByteWritten.{ByteWritten}
+use Rattle.gaugerules.specs.Answer.{ByteAnswer}
 use Rattle.gaugerules.proofs.LoadedLaws.{well_supplied}
 use Rattle.gaugerules.proofs.ByteCases.{on_commit, on_word}
 use Rattle.gaugerules.proofs.KeptLaws.{Untouched, byte_keeps_part}
@@ -53,7 +53,7 @@ byte_stores_none l image g r b low =
     on_test (eqb r block_data_checksum)
     (λ p.
     rw (eqb-true r block_data_checksum p)
-    (on_commit (λ (s : Outcome ByteWritten (List ℕ)). s.lent ≡ image) l image g b (λ e. absurd (true≢false (sym low ∙ well_supplied l image g b e))) refl))
+    (on_commit (λ (s : Outcome ByteAnswer (List ℕ)). s.lent ≡ image) l image g b (λ e. absurd (true≢false (sym low ∙ well_supplied l image g b e))) refl))
     (λ p. only_commit l image g r b (eqb-false r block_data_checksum p))
 
 -- what is claimed of a run: it keeps the supply, and on a low one the image

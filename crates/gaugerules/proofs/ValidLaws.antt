@@ -29,8 +29,8 @@ use Rattle.gaugerules.specs.Write.{write_at, write_byte, write_bytes, call_error
 use Rattle.gaugerules.specs.Laws.{Good, PowerOnValid, ByteGood, WriteGood}
 use Rattle.gaugerules.specs.declared.state.Gauge.{Gauge}
 use Rattle.gaugerules.specs.declared.register.Register.{Register}
-use Rattle.gaugerules.specs.declared.answer.ByteWritten.{ByteWritten}
-use Rattle.gaugerules.specs.declared.answer.Written.{Written}
+use Rattle.gaugerules.specs.Answer.{ByteAnswer}
+use Rattle.gaugerules.specs.Answer.{WriteAnswer}
 use Rattle.gaugerules.proofs.LoadedLaws.{load_view, editable, committable}
 use Rattle.gaugerules.proofs.ByteCases.{on_class, on_control, on_edit, on_load, on_select, on_commit, on_word}
 
@@ -92,7 +92,7 @@ power_on_valid l boot = parts_valid l (power_on boot) (power_on_parts l boot pow
 -- ---- one byte
 
 -- the gauge after a step is valid
-abbrev ToValid : Layout → ByteWritten → Type 0
+abbrev ToValid : Layout → ByteAnswer → Type 0
 ToValid l s = Valid l s.gauge
 
 module _ (l : Layout) (g : Gauge) (v : Valid l g) where
@@ -198,7 +198,7 @@ module _ (l : Layout) (g : Gauge) (v : Valid l g) where
     -- ---- any register
 
     -- a valid gauge, and an image of bytes, of the layout's length
-    abbrev Stays : Outcome ByteWritten (List ℕ) → Type 0
+    abbrev Stays : Outcome ByteAnswer (List ℕ) → Type 0
     Stays s = Valid l s.answer.gauge × (length s.lent ≡ length image) × Bytes s.lent
 
     commits_valid : commit_error l image g byte ≡ 0 → let to = committed l image g in Stays (outcome (byte_written 0 (differing image to) g) to)
@@ -227,7 +227,7 @@ byte_good l image g r byte h o =
 
 -- ---- the bytes of a write
 
-abbrev Ends : Layout → Outcome Written (List ℕ) → Type 0
+abbrev Ends : Layout → Outcome WriteAnswer (List ℕ) → Type 0
 Ends l w = Good l w.lent w.answer.gauge
 
 run_good : (l : Layout) (bs : List ℕ) → Bytes bs → (image : List ℕ) (g : Gauge) (r n c : ℕ) → Good l image g → Ends l (write_bytes l image g r n c bs)

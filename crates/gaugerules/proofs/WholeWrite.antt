@@ -16,8 +16,8 @@ use Rattle.gaugerules.specs.Register.{block_data_checksum, registers}
 use Rattle.gaugerules.specs.Write.{write_byte, written, write_bytes, call_error, write}
 use Rattle.gaugerules.specs.Laws.{Good, commits, Committed, Reached, WriteCommits, byte_by_byte, WriteByBytes}
 use Rattle.gaugerules.specs.declared.state.Gauge.{Gauge}
-use Rattle.gaugerules.specs.declared.answer.ByteWritten.{ByteWritten}
-use Rattle.gaugerules.specs.declared.answer.Written.{Written}
+use Rattle.gaugerules.specs.Answer.{ByteAnswer}
+use Rattle.gaugerules.specs.Answer.{WriteAnswer}
 use Rattle.gaugerules.proofs.ByteLaws.{refused_byte, only_commit, accepted_least}
 use Rattle.gaugerules.proofs.CommitLaws.{commit_rule}
 use Rattle.gaugerules.proofs.RunLaws.{goes_on, stops, called, calls_with}
@@ -58,14 +58,14 @@ byte_commits l image g r b o at =
 
 -- what is claimed of a run over bs, before whose 0x60 m bytes come: the byte there is accepted if
 -- more than these are
-abbrev Runs : Layout → List ℕ → ℕ → ℕ → List ℕ → Outcome Written (List ℕ) → Gauge → Type 0
+abbrev Runs : Layout → List ℕ → ℕ → ℕ → List ℕ → Outcome WriteAnswer (List ℕ) → Gauge → Type 0
 Runs l image n m bs w met = n + m < w.answer.accepted → (commits l image met (get_or bs m 0) ≡ true) × Committed l image met w.lent
 
 module _ (l : Layout) (image : List ℕ) (g : Gauge) (r n c b : ℕ) (bs : List ℕ) (o : Good l image g) where
-  abbrev s : Outcome ByteWritten (List ℕ)
+  abbrev s : Outcome ByteAnswer (List ℕ)
   s = write_byte l image g r b
 
-  abbrev run : Outcome Written (List ℕ)
+  abbrev run : Outcome WriteAnswer (List ℕ)
   run = write_bytes l image g r n c (b ∷ bs)
 
   abbrev c' : ℕ
@@ -159,7 +159,7 @@ one_write l image g r b o h =
     rw c (on_test (eqb s.answer.error 0) (λ p. rw p (sym (eqb-true _ _ p), none, refl, refl)) (λ p. rw p (refl, none, refl, refl)))
 
 -- a turn of a run by numbers, gauges and images that are equal
-same_turn : (next : List ℕ → Gauge → ℕ → Outcome Written (List ℕ)) (n c e e' k k' : ℕ) (h h' : Gauge) (to to' : List ℕ)
+same_turn : (next : List ℕ → Gauge → ℕ → Outcome WriteAnswer (List ℕ)) (n c e e' k k' : ℕ) (h h' : Gauge) (to to' : List ℕ)
     → e' ≡ e → k' ≡ k → h' ≡ h → to' ≡ to
     → cond (eqb e 0) (next to h (c + k)) (outcome (written e n (c + k) h) to)
     ≡ cond (eqb e' 0) (next to' h' (c + k')) (outcome (written e' n (c + k') h') to')
@@ -175,7 +175,7 @@ by_bytes l (b ∷ bs) h image g r n c o k =
     let o' = byte_good l image g r b (h zero) o in
     let c' = c + s.answer.changed in
     let ih = by_bytes l bs (λ j. h (suc j)) s.lent s.answer.gauge (r + 1) (n + 1) c' o' (omega arith) in
-    ap (λ (w : Outcome Written (List ℕ)). cond (eqb s.answer.error 0) w (outcome (written s.answer.error n c' s.answer.gauge) s.lent)) ih
+    ap (λ (w : Outcome WriteAnswer (List ℕ)). cond (eqb s.answer.error 0) w (outcome (written s.answer.error n c' s.answer.gauge) s.lent)) ih
     ∙ same_turn (λ to g' k'. byte_by_byte l to g' (r + 1) (n + 1) k' bs) n c _ _ _ _ _ _ _ _ one.0 one.1 one.2 one.3
 
 pub write_by_bytes : WriteByBytes

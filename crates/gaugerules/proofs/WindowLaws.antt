@@ -19,8 +19,8 @@ use Rattle.gaugerules.specs.Write.{write_at, write_byte, write_bytes, call_error
 use Rattle.gaugerules.specs.Laws.{WriteLength}
 use Rattle.gaugerules.specs.declared.state.Gauge.{Gauge}
 use Rattle.gaugerules.specs.declared.register.Register.{Register}
-use Rattle.gaugerules.specs.declared.answer.ByteWritten.{ByteWritten}
-use Rattle.gaugerules.specs.declared.answer.Written.{Written}
+use Rattle.gaugerules.specs.Answer.{ByteAnswer}
+use Rattle.gaugerules.specs.Answer.{WriteAnswer}
 use Rattle.gaugerules.proofs.LoadedLaws.{committable}
 use Rattle.gaugerules.proofs.ByteCases.{on_class, on_control, on_edit, on_load, on_select, on_commit, on_word}
 use Rattle.gaugerules.proofs.RunLaws.{called}
@@ -33,13 +33,13 @@ module _ (l : Layout) (image : List ℕ) (g : Gauge) (byte : ℕ) (h : Whole g) 
   word_whole : (w : ℕ) → Whole (obey l image g w)
   word_whole w = on_word Whole l image g w h refl refl (λ _. h) (λ _. h) (λ _ _. h)
 
-  abbrev ToWhole : ByteWritten → Type 0
+  abbrev ToWhole : ByteAnswer → Type 0
   ToWhole s = Whole s.gauge
 
   load_whole : (i b : ℕ) → ToWhole (load_block l image g byte i b)
   load_whole i b = on_load ToWhole g byte l image i b (λ _ _ _. loaded_length l image i b) (λ _. h)
 
-  abbrev Both : Outcome ByteWritten (List ℕ) → Type 0
+  abbrev Both : Outcome ByteAnswer (List ℕ) → Type 0
   Both s = ToWhole s.answer × (length s.lent ≡ length image)
 
   commit_whole : commit_error l image g byte ≡ 0 → let to = committed l image g in Both (outcome (byte_written 0 (differing image to) g) to)
@@ -63,13 +63,13 @@ run_length l [] image g r n c h = refl
 run_length l (b ∷ bs) image g r n c h =
     let s = write_byte l image g r b in
     let k = byte_whole l image g b h (register_of r) in
-    on_cond (λ (w : Outcome Written (List ℕ)). length w.lent ≡ length image) (eqb s.answer.error 0) _ _
+    on_cond (λ (w : Outcome WriteAnswer (List ℕ)). length w.lent ≡ length image) (eqb s.answer.error 0) _ _
     (λ _. run_length l bs s.lent s.answer.gauge (r + 1) (n + 1) (c + s.answer.changed) k.0 ∙ k.1) (λ _. k.1)
 
 pub write_length : WriteLength
 unfolding write outcome
 write_length l image g r bytes =
     let e = call_error l (length image) g r (length bytes) in
-    on_cond (λ (w : Outcome Written (List ℕ)). length w.lent ≡ length image) (eqb e 0) _ _
+    on_cond (λ (w : Outcome WriteAnswer (List ℕ)). length w.lent ≡ length image) (eqb e 0) _ _
     (λ p. run_length l bytes image g r 0 0 (valid_parts l g (called l (length image) g r (length bytes) (eqb-true _ _ p)).sound).range.window)
     (λ _. refl)

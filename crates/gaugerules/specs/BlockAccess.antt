@@ -7,12 +7,12 @@
 use Rattle.std.specs.Prelude.{ℕ, ◌+◌, ◌≤◌, ◌≡◌, ◌⊎◌, true, false, List, [], ◌∷◌, ◌++◌, length, take, drop}
 use Rattle.std.proofs.lemmas.List.Edits.{sets}
 use Rattle.checksum.specs.Checksum.{checksum}
+use Rattle.flashrules.specs.Answer.{found}
 use Rattle.flashrules.specs.Outcome.{outcome}
 use Rattle.flashrules.specs.Choice.{differing}
 use Rattle.flashrules.specs.Lookup.{find_block}
 use Rattle.flashrules.specs.Image.{max_byte, Bytes, block_bytes, as_loaded}
 use Rattle.flashrules.specs.declared.layout.Layout.{Layout}
-use Rattle.flashrules.specs.declared.lookup.Lookup.{Lookup}
 use Rattle.gaugerules.specs.State.{control_flash, is_sealed, is_full_access, has_low_supply, general_access, with_control}
 use Rattle.gaugerules.specs.State.{with_class, with_window, unload, load}
 use Rattle.gaugerules.specs.Keys.{key_bytes}
@@ -61,13 +61,13 @@ pub record BlockSelects (l : Layout) (image : List ℕ) (g : Gauge) (i b : ℕ) 
 abbrev pub SelectBlock : Type 0
 SelectBlock =
     (l : Layout) (image : List ℕ) (g : Gauge) (i b s k : ℕ) → Good l image g → general_access g ≡ true → i ≤ max_byte
-    → b ≤ max_byte → find_block l (length image) i b ≡ Lookup.Found s k → BlockSelects l image g i b
+    → b ≤ max_byte → find_block l (length image) i b ≡ found s k → BlockSelects l image g i b
 
 -- n of its bytes, from byte o on, are read at 0x40 + o: they are the image's own
 abbrev pub ReadBlock : Type 0
 ReadBlock =
     (l : Layout) (image : List ℕ) (g : Gauge) (i b s k : ℕ) → Good l image g → general_access g ≡ true → i ≤ max_byte
-    → b ≤ max_byte → find_block l (length image) i b ≡ Lookup.Found s k
+    → b ≤ max_byte → find_block l (length image) i b ≡ found s k
     → (o n : ℕ) (buffer : List ℕ) → 1 ≤ n → o + n ≤ k → n ≤ length buffer
     → read l image (block_selected l image g i b) (block_data + o) n buffer
     ≡ outcome (reading 0 n) (take n (drop (s + o) image) ++ drop n buffer)
@@ -99,6 +99,6 @@ abbrev pub WriteBlock : Type 0
 WriteBlock =
     (l : Layout) (image : List ℕ) (g : Gauge) (i b s k : ℕ) → Good l image g → general_access g ≡ true
     → has_low_supply g ≡ false
-    → i ≤ max_byte → b ≤ max_byte → find_block l (length image) i b ≡ Lookup.Found s k
+    → i ≤ max_byte → b ≤ max_byte → find_block l (length image) i b ≡ found s k
     → (o : ℕ) (bs : List ℕ) → Bytes bs → 1 ≤ length bs → o + length bs ≤ k
     → let to = sets image (s + o) bs in MayLeave l image g to → BlockWrites l image g i b o bs to

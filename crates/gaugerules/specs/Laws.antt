@@ -23,8 +23,8 @@ use Rattle.gaugerules.specs.Read.{read_bytes, read}
 use Rattle.gaugerules.specs.Supply.{set_supply}
 use Rattle.gaugerules.specs.Table.{byte_tests}
 use Rattle.gaugerules.specs.declared.state.Gauge.{Gauge}
-use Rattle.gaugerules.specs.declared.state.Loaded.{Loaded}
-use Rattle.gaugerules.specs.declared.answer.Written.{Written}
+use Rattle.gaugerules.specs.State.{block_loaded}
+use Rattle.gaugerules.specs.Answer.{WriteAnswer}
 
 -- ---- a valid gauge over an image of its layout stays so
 
@@ -126,7 +126,7 @@ commits l image g byte =
 pub record Committed (l : Layout) (image : List ℕ) (g : Gauge) (image' : List ℕ) : Type 0 where
   pub class : ℕ
   pub block : ℕ
-  pub loaded : loaded_of g.loaded ≡ Loaded.Block class block
+  pub loaded : loaded_of g.loaded ≡ block_loaded class block
   pub size : length image' ≡ length image
   pub some : 1 ≤ length_of (find_block l (length image) class block)
   pub here : block_bytes l image' class block ≡ take (length_of (find_block l (length image) class block)) g.window
@@ -201,7 +201,7 @@ KeyEqual = (bs : List ℕ) (at u w : ℕ) → (is_key bs at u w ≡ true) ↔ (t
 
 -- each byte is a write of its own, at the next register; n were accepted before, and they changed c
 -- bytes of the image
-unfoldable pub byte_by_byte : Layout → List ℕ → Gauge → ℕ → ℕ → ℕ → List ℕ → Outcome Written (List ℕ)
+unfoldable pub byte_by_byte : Layout → List ℕ → Gauge → ℕ → ℕ → ℕ → List ℕ → Outcome WriteAnswer (List ℕ)
 byte_by_byte l image g r n c [] = outcome (written 0 n c g) image
 byte_by_byte l image g r n c (b ∷ bs) =
     let w = write l image g r (b ∷ []) in

@@ -1,4 +1,5 @@
 pub mod State
+pub mod Answer
 pub mod Valid
 pub mod Register
 pub mod Keys

@@ -11,7 +11,7 @@ use Rattle.gaugerules.specs.Register.{register_of}
 use Rattle.gaugerules.specs.Write.{call_tests}
 use Rattle.gaugerules.specs.declared.state.Gauge.{Gauge}
 use Rattle.gaugerules.specs.declared.register.Register.{Register}
-use Rattle.gaugerules.specs.declared.answer.Reading.{Reading}
+use Rattle.gaugerules.specs.Answer.{ReadAnswer}
 
 -- "both 0 when sealed"
 abbrev pub unless_sealed : Gauge → ℕ → ℕ
@@ -38,7 +38,7 @@ read_bytes g r zero = []
 read_bytes g r (suc n) = read_byte g r ∷ read_bytes g (r + 1) n
 
 -- 01: "An accepted read takes n, a refused one 0."
-abbrev pub reading : ℕ → ℕ → Reading
+abbrev pub reading : ℕ → ℕ → ReadAnswer
 reading e n = record { error = e; accepted = n }
 
 -- 01: "Order for a transaction: 10, 15, 1, 14". The image has `size` bytes, the buffer `room`
@@ -49,7 +49,7 @@ unfoldable pub read_error : Layout → ℕ → Gauge → ℕ → ℕ → ℕ →
 read_error l size g r n room = first_error (read_tests l size g r n room)
 
 -- 14: "room untouched; if accepted, only past the answer"
-unfoldable pub read : Layout → List ℕ → Gauge → ℕ → ℕ → List ℕ → Outcome Reading (List ℕ)
+unfoldable pub read : Layout → List ℕ → Gauge → ℕ → ℕ → List ℕ → Outcome ReadAnswer (List ℕ)
 read l image g r n buffer =
     let e = read_error l (length image) g r n (length buffer) in
     cond (eqb e 0) (outcome (reading 0 n) (read_bytes g r n ++ drop n buffer)) (outcome (reading e 0) buffer)

@@ -12,7 +12,7 @@ use Rattle.gaugerules.specs.Write.{write}
 use Rattle.gaugerules.specs.Read.{read}
 use Rattle.gaugerules.specs.Supply.{set_supply}
 use Rattle.gaugerules.specs.declared.state.Gauge.{Gauge}
-use Rattle.gaugerules.specs.declared.answer.Reading.{Reading}
+use Rattle.gaugerules.specs.Answer.{ReadAnswer}
 
 pub record Device : Type 0 where
   pub gauge : Gauge
@@ -35,7 +35,7 @@ pub data Call : Type 0 where
 -- alone
 pub data Reply : Type 0 where
   of_write : ℕ → ℕ → ℕ → Reply
-  of_read : Outcome Reading (List ℕ) → Reply
+  of_read : Outcome ReadAnswer (List ℕ) → Reply
   of_supply : ℕ → Reply
 
 unfoldable pub reply : Layout → Device → Call → Reply

@@ -1,11 +1,11 @@
 -- The state of a gauge: named numbers, tests, and the changes that the rules make. Document 01,
 -- "The gauge record". A field that is added to the record is added to the changes here and to
--- `inRange` of specs/Valid.antt.
-use Rattle.std.specs.Prelude.{ℕ, ◌+◌, ◌*◌, ◌/◌, ◌%◌, Bool, true, false, cond, List, [], ◌∷◌, eqb, ltb, replicate}
+-- `in_range` of specs/Valid.antt.
+use Rattle.std.specs.Prelude.{ℕ, ◌+◌, ◌*◌, ◌/◌, ◌%◌, Bool, true, false, cond, List, [], ◌∷◌, eqb, ltb, replicate, Option, None, Some}
 use Rattle.flashrules.specs.Choice.{and}
 use Rattle.flashrules.specs.Lookup.{block_size}
 use Rattle.gaugerules.specs.declared.state.Gauge.{Gauge}
-use Rattle.gaugerules.specs.declared.state.Loaded.{Loaded}
+use Rattle.gaugerules.specs.declared.state.BlockId.{BlockId}
 
 -- ---- named numbers
 
@@ -97,14 +97,20 @@ abbrev pub packed : ℕ → ℕ → ℕ
 packed i b = 256 * i + b
 
 -- 01: "loaded block or none": none, or a block of a class
+abbrev pub Loaded : Type 0
+Loaded = Option BlockId
+
+abbrev pub block_loaded : ℕ → ℕ → Loaded
+block_loaded i b = Some (record { class = i; block = b })
+
 unfoldable pub loaded_of : ℕ → Loaded
-loaded_of n = cond (eqb n no_block) Loaded.None (Loaded.Block (n / 256 % 256) (n % 256))
+loaded_of n = cond (eqb n no_block) None (block_loaded (n / 256 % 256) (n % 256))
 
 -- the rules go by its cases
 module _ {A : Type 0} where
   abbrev pub if_loaded : Loaded → A → (ℕ → ℕ → A) → A
-  if_loaded Loaded.None x f = x
-  if_loaded (Loaded.Block i b) x f = f i b
+  if_loaded None x f = x
+  if_loaded (Some k) x f = f k.class k.block
 
 abbrev pub none_loaded : Gauge → Bool
 none_loaded g = if_loaded (loaded_of g.loaded) true (λ i b. false)

@@ -17,31 +17,31 @@ use Rattle.gaugerules.specs.State.{general_access, loaded_of, if_loaded, none_lo
 use Rattle.gaugerules.specs.State.{with_class, with_window, unload, load}
 use Rattle.gaugerules.specs.Keys.{key_block, keys_end, key_bytes}
 use Rattle.gaugerules.specs.declared.state.Gauge.{Gauge}
-use Rattle.gaugerules.specs.declared.answer.ByteWritten.{ByteWritten}
+use Rattle.gaugerules.specs.Answer.{ByteAnswer}
 
 -- ---- what a byte did
 
 -- it changed so many bytes of the image
-abbrev pub byte_written : ℕ → ℕ → Gauge → ByteWritten
+abbrev pub byte_written : ℕ → ℕ → Gauge → ByteAnswer
 byte_written e changed g = record { error = e; changed = changed; gauge = g }
 
 -- where it leaves the image alone
-abbrev pub accept : Gauge → ByteWritten
+abbrev pub accept : Gauge → ByteAnswer
 accept g = byte_written 0 0 g
 
-abbrev pub refuse : ℕ → Gauge → ByteWritten
+abbrev pub refuse : ℕ → Gauge → ByteAnswer
 refuse e g = byte_written e 0 g
 
 -- ---- 0x3E
 
 -- 01: "0x3E | not sealed: class set, in the layout or not; unload"
-unfoldable pub set_class : Gauge → ℕ → ByteWritten
+unfoldable pub set_class : Gauge → ℕ → ByteAnswer
 set_class g byte = cond (is_sealed g) (refuse sealed_register g) (accept (unload (with_class g byte)))
 
 -- ---- 0x3F
 
 -- block b of class i is loaded as the lookup finds it, by this byte
-unfoldable pub load_block : Layout → List ℕ → Gauge → ℕ → ℕ → ℕ → ByteWritten
+unfoldable pub load_block : Layout → List ℕ → Gauge → ℕ → ℕ → ℕ → ByteAnswer
 load_block l image g byte i b =
     if_found (find_block l (length image) i b)
     (λ s k. accept (load g byte i b (as_loaded (block_bytes l image i b)))) (λ e. refuse e g)
@@ -51,7 +51,7 @@ abbrev pub selects_info : ℕ → Bool
 selects_info byte = and (leb 1 byte ∷ leb byte info_blocks ∷ [])
 
 -- 01: "0x3F | general: loads that block of the class. Otherwise 1, 2, 3 load A, B, C"
-unfoldable pub select_block : Layout → List ℕ → Gauge → ℕ → ByteWritten
+unfoldable pub select_block : Layout → List ℕ → Gauge → ℕ → ByteAnswer
 select_block l image g byte =
     cond (general_access g) (load_block l image g byte g.class byte)
     (cond (selects_info byte) (load_block l image g byte info_class (byte - 1)) (refuse unknown_block g))
@@ -70,7 +70,7 @@ unfoldable pub edit_error : Gauge → ℕ
 edit_error g = first_error (edit_tests g)
 
 -- 01: "0x40 to 0x5F | window byte replaced, also past the end of a short block"
-unfoldable pub edit : Gauge → ℕ → ℕ → ByteWritten
+unfoldable pub edit : Gauge → ℕ → ℕ → ByteAnswer
 edit g k byte = cond (eqb (edit_error g) 0) (accept (with_window g (set g.window k byte))) (refuse (edit_error g) g)
 
 -- 16: 02, C-14, "An unsealed commit to block 0 of class 112 that would change any of bytes 0 to 7"
@@ -105,7 +105,7 @@ committed l image g = if_loaded (loaded_of g.loaded) image (λ i b. store_block 
 -- ---- 0x61
 
 -- 01: "0x61 | not sealed: 0 or 1 set; unload"; 3 comes before 9
-unfoldable pub set_control : Gauge → ℕ → ByteWritten
+unfoldable pub set_control : Gauge → ℕ → ByteAnswer
 set_control g byte =
     cond (is_sealed g) (refuse sealed_register g)
     (cond (leb byte control_info) (accept (unload (with_control g byte))) (refuse invalid_control g))

@@ -1,5 +1,7 @@
 // The state of a gauge (document 01: the gauge record). Numbers only, so that a host program can
 // hold it and any record whatever can be passed; whether one is valid is a test.
+// Stays: modes, boot, control, pending and loaded are no enums and no Options. A record that holds
+// none of their values must be there to be refused with 15 (`gaugestate::valid`, `InvalidGauge`).
 use flashrules::lookup::BLOCK_SIZE;
 
 // Modes.
@@ -37,11 +39,12 @@ pub const MAX_SUPPLY: u16 = 4500;
 
 pub const MIN_COMMIT_SUPPLY: u16 = 2700;
 
-// What is in the window, as the rules go by it: a view of the number that a gauge holds.
-#[derive(Clone, Copy)]
-pub enum Loaded {
-    None,
-    Block { class: u8, block: u8 },
+// A block of a class, as the rules go by it: a view of the number that a gauge holds of what is in
+// its window.
+#[derive(Clone, Copy, Debug, PartialEq, Eq)]
+pub struct BlockId {
+    pub class: u8,
+    pub block: u8,
 }
 
 #[repr(C)]

@@ -4,12 +4,12 @@ use mathlib.Core.Path.{◌≡◌, refl, sym, ap, ◌∙◌}
 use mathlib.Core.List.{List, [], ◌∷◌, ◌++◌, head-eq_of_cons-eq, tail-eq_of_cons-eq}
 use native.Mathlib.Omega.{arith}
 use native.Mathlib.Decide.{dec_lt}
-use lib.ListN.{length, drop, set, get_or, length-append, length-drop, drop_of_length-le}
+use lib.ListN.{length, drop, set, get_or, length-append, drop_of_length-le}
 use lib.Seq.{sets, drop-cons}
 use borrow.Author.Tests.{lt-ltb, le-ltb}
 use Rattle.hextext.specs.Hex.{digit, value, pair, hex, unhex, line_feed, hex_line}
 use Rattle.hextext.specs.Laws.{HexBack, HexLength, UnhexBytes, LineLength, LineUnique}
-use Rattle.hextext.proofs.StoreLaws.{sets_out, sets_on}
+use Rattle.hextext.proofs.StoreLaws.{sets_out, sets_past, sets_on}
 
 -- ---- one digit
 
@@ -78,11 +78,6 @@ unhex_length (suc n) (a ∷ b ∷ x) e = ap suc (unhex_length n x (omega arith))
 
 -- ---- the loop that writes: `e` is its invariant
 
--- one byte
-pub encoded : (b at h l : ℕ) (r r₁ r₂ : List ℕ) → h ≡ digit (b / 16) → l ≡ digit b → r₁ ≡ set r at h
-    → r₂ ≡ set r₁ (at + 1) l → r₂ ≡ sets r at (hex (b ∷ []))
-encoded b at h l r r₁ r₂ p q u v = let s : suc at ≡ at + 1 = omega arith in rw (s, ← p, ← q, ← u) v
-
 module _ (bs r z : List ℕ) (i out : ℕ) (e : sets r out (hex (drop i bs)) ≡ z) where
   pub encode_more : (r' : List ℕ) → i < length bs → r' ≡ sets r out (hex (get_or bs i 0 ∷ [])) → sets r' (out + 2) (hex (drop (i + 1) bs)) ≡ z
   encode_more r' h p =
@@ -92,6 +87,8 @@ module _ (bs r z : List ℕ) (i out : ℕ) (e : sets r out (hex (drop i bs)) ≡
 
   pub encode_end : length bs ≤ i → r ≡ z
   encode_end h = rw (drop_of_length-le bs h) at e
+
+pub ruleset encodes = (sets_past, encode_more, encode_end)
 
 -- ---- a line: its bytes are stored, and then the line feed
 
@@ -116,6 +113,8 @@ module _ (bs r r' : List ℕ) (at : ℕ) (p : r' ≡ sets r at (hex bs)) where
   pub line_cut : (length r' - at) / 2 < length bs → r' ≡ sets r at (hex_line bs)
   line_cut h = full (omega arith)
 
+pub ruleset lines = (line_outside, line_cut, line_stored)
+
 -- a digit is no line feed, so the first line feed ends the line
 pub line_unique : LineUnique
 line_unique [] [] rest rest' h g e = (refl, tail-eq_of_cons-eq e)
@@ -135,13 +134,22 @@ unhex_short [] h = refl
 unhex_short (a ∷ []) h = refl
 unhex_short (a ∷ b ∷ cs) h = absurd (omega arith)
 
-module _ (x r z : List ℕ) (i out : ℕ) (e : sets r out (unhex (drop i x)) ≡ z) where
-  pub decode_more : (b : ℕ) → i + 1 < length x → b ≡ pair (get_or x i 0) (get_or x (i + 1) 0) → sets (set r out b) (out + 1) (unhex (drop (i + 2) x)) ≡ z
-  decode_more b h p =
-      let s : out + 1 ≡ suc out = omega arith in
-      let t : i + 1 ≡ suc i = omega arith in
-      let u : i + 2 ≡ suc (suc i) = omega arith in
-      rw (p, s, t, u) (rw (drop-cons x i 0 (omega arith), drop-cons x (suc i) 0 (omega arith)) at e)
+-- a pair more: it and what is left make what was left
+unhex_next : (x digits left : List ℕ) → x ≡ digits ++ left → length digits ≡ 2
+    → unhex x ≡ pair (get_or digits 0 0) (get_or digits 1 0) ∷ unhex left
+unhex_next x [] left e h = absurd (omega arith)
+unhex_next x (a ∷ []) left e h = absurd (omega arith)
+unhex_next x (a ∷ b ∷ []) left e h = rw e
+unhex_next x (a ∷ b ∷ c ∷ cs) left e h = absurd (omega arith)
 
-  pub decode_end : length x ≤ i + 1 → r ≡ z
-  decode_end h = rw (unhex_short (drop i x) (rw length-drop (omega arith))) at e
+module _ (x r z : List ℕ) (out : ℕ) (e : sets r out (unhex x) ≡ z) where
+  pub decode_more : (digits left : List ℕ) (b : ℕ) → x ≡ digits ++ left → length digits ≡ 2
+      → b ≡ pair (get_or digits 0 0) (get_or digits 1 0) → sets (set r out b) (out + 1) (unhex left) ≡ z
+  decode_more digits left b q h p =
+      let s : out + 1 ≡ suc out = omega arith in
+      rw (p, s) (rw (unhex_next x digits left q h) at e)
+
+  pub decode_end : length x < 2 → r ≡ z
+  decode_end h = rw (unhex_short x (omega arith)) at e
+
+pub ruleset decodes = (sets_past, decode_more, decode_end)

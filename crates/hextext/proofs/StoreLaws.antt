@@ -13,9 +13,9 @@ pub sets_out : (l : List ℕ) (i : ℕ) (vs : List ℕ) → length l ≤ i → l
 sets_out l i [] h = refl
 sets_out l i (v ∷ vs) h = rw (set_out l i v h) (sets_out l (suc i) vs (omega arith))
 
--- so a loop that stores may end there: `e` is its invariant
-pub sets_full : (l z : List ℕ) (i : ℕ) (vs : List ℕ) → sets l i vs ≡ z → length l ≤ i → l ≡ z
-sets_full l z i vs e h = sets_out l i vs h ∙ e
+-- so a loop that stores may end there
+pub sets_past : (l : List ℕ) (i : ℕ) (vs : List ℕ) → length l ≤ i → sets l i vs ≡ l
+sets_past l i vs h = sym (sets_out l i vs h)
 
 -- two runs of stores, one behind the other
 pub sets_append : (l : List ℕ) (i : ℕ) (vs ws : List ℕ) → sets l i (vs ++ ws) ≡ sets (sets l i vs) (i + length vs) ws

@@ -2,6 +2,8 @@
 // index on, and every contract says what it then holds by the library's `sets buffer at xs`: the
 // buffer with xs stored from `at` on, the rest as it was. What would lie past the buffer's end is
 // not stored, so every function here answers every argument.
+// Stays: a place beside the buffer and no slice of it. A text goes on past a short buffer's end,
+// and the length that is answered is that of all of it (`delta` puts one into an empty buffer).
 #![tactic(auto)]
 
 pub mod scan;
@@ -13,6 +15,7 @@ ghost use Rattle.hextext.specs.Hex.{digit, value, pair, hex, unhex, hex_line};
 pub const LINE_FEED: u8 = 10;
 
 // The digit of a number's low four bits.
+#[tactic(auto, unfolding(crate::specs::Hex::digit))]
 fn digit(n: u8) -> u8
     ensures { result ≡ digit n }
 {
@@ -21,6 +24,7 @@ fn digit(n: u8) -> u8
 }
 
 // The number of a digit; of any other byte some number below 16.
+#[tactic(auto, unfolding(crate::specs::Hex::value))]
 pub fn value(c: u8) -> u8
     ensures { (result ≡ value c) × (result < 16) }
 {
@@ -35,69 +39,64 @@ pub fn pair(high: u8, low: u8) -> u8
 }
 
 // One byte as it is.
+#[tactic(auto, using(crate::proofs::StoreLaws::sets_out))]
 fn store(byte: u8, buffer: &mut [u8], at: usize)
     ensures { buffer.new ≡ sets buffer.old at (byte ∷ []) }
 {
-    if buffer.len() <= at {
-        return;
+    if at < buffer.len() {
+        buffer[at] = byte;
     }
-    buffer[at] = byte;
 }
 
 // One byte as two digits.
+#[tactic(auto, using(crate::proofs::StoreLaws::sets_out))]
 pub fn encode_byte(byte: u8, buffer: &mut [u8], at: usize)
     ensures { buffer.new ≡ sets buffer.old at (hex (byte ∷ [])) }
 {
-    if buffer.len() <= at {
-        return;
+    if at < buffer.len() {
+        store(digit(byte / 16), buffer, at);
+        store(digit(byte), buffer, at + 1);
     }
-    store(digit(byte / 16), buffer, at);
-    store(digit(byte), buffer, at + 1);
 }
 
 // Bytes, two digits each.
+#[tactic(auto, using(crate::proofs::HexLaws::encodes))]
 pub fn encode(bytes: &[u8], buffer: &mut [u8], at: usize)
     ensures { buffer.new ≡ sets buffer.old at (hex bytes.now) }
 {
-    let mut i = 0;
     let mut out = at;
-    while i < bytes.len() {
+    for byte in bytes {
         if buffer.len() <= out {
             return;
         }
-        encode_byte(bytes[i], buffer, out);
+        encode_byte(*byte, buffer, out);
         out += 2;
-        i += 1;
     }
 }
 
 // A line of bytes, two digits each, and a line feed.
+#[tactic(auto, using(crate::proofs::HexLaws::lines))]
 pub fn encode_line(bytes: &[u8], buffer: &mut [u8], at: usize)
     ensures { buffer.new ≡ sets buffer.old at (hex_line bytes.now) }
 {
     encode(bytes, buffer, at);
-    if buffer.len() <= at {
-        return;
+    if at < buffer.len() && bytes.len() <= (buffer.len() - at) / 2 {
+        store(LINE_FEED, buffer, at + 2 * bytes.len());
     }
-    if (buffer.len() - at) / 2 < bytes.len() {
-        return;
-    }
-    store(LINE_FEED, buffer, at + 2 * bytes.len());
 }
 
 // The bytes that a text's pairs of digits stand for; an odd last byte of the text counts for
 // nothing.
+#[tactic(auto, using(crate::proofs::HexLaws::decodes))]
 pub fn decode(text: &[u8], buffer: &mut [u8], at: usize)
     ensures { buffer.new ≡ sets buffer.old at (unhex text.now) }
 {
-    let mut i = 0;
     let mut out = at;
-    while i + 1 < text.len() {
+    for digits in text.chunks_exact(2) {
         if buffer.len() <= out {
             return;
         }
-        buffer[out] = pair(text[i], text[i + 1]);
+        buffer[out] = pair(digits[0], digits[1]);
         out += 1;
-        i += 2;
     }
 }

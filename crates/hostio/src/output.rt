@@ -1,44 +1,56 @@
 // What goes to standard output and standard error.
-ghost use Rattle.std.specs.Prelude.{◌≡◌, [], ◌∷◌};
+ghost use Rattle.std.specs.Prelude.{◌≡◌, [], ◌∷◌, Ok, MatchResult, IsErr};
+ghost use Rattle.flashrules.specs.Error.{number};
 ghost use Rattle.hextext.specs.Hex.{hex_line};
 
+use flashrules::error::Error;
 use hextext::encode_line;
 use std::io;
 use std::io::Write;
 use std::str::from_utf8;
 
 // The line that a refused program prints: the number alone.
-pub fn refusal_line(error: u8) -> [u8; 3]
-    ensures { result ≡ hex_line (error ∷ []) }
+pub fn refusal_line(error: Error) -> [u8; 3]
+    ensures { result ≡ hex_line (number error ∷ []) }
 {
     let mut line = [0u8; 3];
-    encode_line(&[error], &mut line, 0);
+    encode_line(&[error.number()], &mut line, 0);
     line
 }
 
 // Prints it.
-pub fn refuse<R: Print + Eprint + AllocGlobal>(rt: &R, error: u8) {
+pub fn refuse<R: Print + Eprint + AllocGlobal>(rt: &R, error: Error) {
     let line = refusal_line(error);
-    print(rt, &line);
+    let _ = print(rt, &line);
 }
 
-// Whether all of it was taken; where it was not, the reason goes to standard error.
-pub fn print<R: Print + Eprint + AllocGlobal>(rt: &R, text: &[u8]) -> bool {
-    match io::writer(rt).write_all(text) {
-        Ok(()) => true,
-        Err(error) => {
-            fail(rt, b"standard output", &error);
-            false
-        }
-    }
+// Something failed, and the reason was already written to standard error.
+#[derive(Clone, Copy, Debug, PartialEq, Eq)]
+pub struct Reported;
+
+// What was answered; of a failure the reason, as a line under a name.
+pub fn or_report<R: Eprint + AllocGlobal, T>(
+    rt: &R,
+    name: &[u8],
+    answer: io::Result<T>,
+) -> Result<T, Reported>
+    ensures { MatchResult answer (λ value. result ≡ Ok value) (λ _. IsErr result) }
+{
+    answer.map_err(|error| {
+        fail(rt, name, &error);
+        Reported
+    })
+}
+
+// Prints all of a text.
+pub fn print<R: Print + Eprint + AllocGlobal>(rt: &R, text: &[u8]) -> Result<(), Reported> {
+    or_report(rt, b"standard output", io::writer(rt).write_all(text))
 }
 
 // A name or a reason as text; what is no UTF-8 is said to be so.
+// Stays: bytes and no `&str`. `load` takes any name, and answers one that is no UTF-8.
 pub(crate) fn as_text(bytes: &[u8]) -> &str {
-    match from_utf8(bytes) {
-        Ok(text) => text,
-        Err(_) => "(no UTF-8 text)",
-    }
+    from_utf8(bytes).unwrap_or("(no UTF-8 text)")
 }
 
 // A reason, as a line. Nothing is left to do where it cannot be written.

@@ -6,75 +6,66 @@
 // What is printed is proved of crate `delta`, whose call does all the work; here it is fed.
 #![tactic(auto)]
 
-ghost use Rattle.std.specs.Prelude.{◌≡◌, true, ◌≤◌, length};
-ghost use Rattle.flashrules.specs.Error.{malformed, layout_mismatch};
-ghost use Rattle.flashrules.specs.Layout.{fits};
+ghost use Rattle.std.specs.Prelude.{◌≡◌, ◌⊎◌, true, false, length, IfErr, MatchResult};
+ghost use Rattle.flashrules.specs.Layout.{fits, same_layout};
+ghost use Rattle.flashrules.specs.declared.error.Error.TheVariants.{Malformed, LayoutMismatch};
 
 use delta::compare;
 use deltarules::MAX_RUNS_TEXT;
+use flashrules::error::Error;
 use flashrules::layout::{Layout, MAX_IMAGE_LENGTH};
 use hostio::image_file::load;
 use hostio::output::{print, refuse, report};
-use imagerules::answer::FileWritten;
+use std::rt::Files;
 
-// The one refusal that a file can meet.
-fn refuse_file<R: Print + Eprint + AllocGlobal>(rt: &R, error: u8)
-    requires { error ≡ malformed }
-{
-    refuse(rt, error);
-}
-
-// The one refusal that two good files can meet.
-fn refuse_layouts<R: Print + Eprint + AllocGlobal>(rt: &R, error: u8)
-    requires { error ≡ layout_mismatch }
-{
-    report(rt, b"old.hex and new.hex: layouts differ");
-    refuse(rt, error);
-}
-
-// The list, at the front of a text, where there is no refusal: nothing printed means equal images.
-fn print_list<R: Print + Eprint + AllocGlobal>(rt: &R, written: FileWritten, text: &[u8])
-    requires { (written.error ≡ 0) × (written.length ≤ length text.now) }
-{
-    let n = written.length;
-    print(rt, &text[0..n]);
-}
-
-// The list, or the refusal. The buffer has room for the longest list that there is.
+// Prints the list of two good files; nothing printed means equal images. They are refused only
+// because their layouts differ: the buffer has room for the longest list that there is.
+#[tactic(auto, using(crate::proofs::ShowLaws::shows))]
 fn show<R: Print + Eprint + AllocGlobal>(
     rt: &R,
     layout: Layout,
     old: &[u8],
     other: Layout,
     new: &[u8],
-)
+) -> Result<(), Error>
     requires { (fits layout (length old.now) ≡ true) × (fits other (length new.now) ≡ true) }
+    ensures { MatchResult result (λ _. same_layout layout other ≡ true) (λ error. (error ≡ LayoutMismatch) × (same_layout layout other ≡ false)) }
 {
     let mut text = [0u8; MAX_RUNS_TEXT];
-    let written = compare(layout, old, other, new, &mut text);
-    if written.error != 0 {
-        refuse_layouts(rt, written.error);
-        return;
+    match compare(layout, old, other, new, &mut text) {
+        Ok(length) => {
+            let _ = print(rt, &text[..length]);
+            Ok(())
+        }
+        Err(error) => {
+            report(rt, b"old.hex and new.hex: layouts differ");
+            Err(error)
+        }
     }
-    print_list(rt, written, &text);
+}
+
+// Prints the list of the two files. A file meets one refusal, and two good files another one.
+#[tactic(auto, using(crate::proofs::ShowLaws::files))]
+fn show_files<R: Files + Print + Eprint + AllocGlobal>(rt: &R) -> Result<(), Error>
+    ensures { IfErr result (λ error. (error ≡ Malformed) ⊎ (error ≡ LayoutMismatch)) }
+{
+    let mut old_bytes = [0u8; MAX_IMAGE_LENGTH];
+    let mut new_bytes = [0u8; MAX_IMAGE_LENGTH];
+    let old = load(rt, b"old.hex", &mut old_bytes);
+    let new = load(rt, b"new.hex", &mut new_bytes);
+    let old = old?;
+    let new = new?;
+    show(
+        rt,
+        old.layout,
+        &old_bytes[..old.length],
+        new.layout,
+        &new_bytes[..new.length],
+    )
 }
 
 fn main(rt: HostRuntime) {
-    let mut old_bytes = [0u8; MAX_IMAGE_LENGTH];
-    let mut new_bytes = [0u8; MAX_IMAGE_LENGTH];
-    let old = load(&rt, b"old.hex", &mut old_bytes);
-    let new = load(&rt, b"new.hex", &mut new_bytes);
-    if old.error != 0 {
-        refuse_file(&rt, old.error);
-        return;
+    if let Err(error) = show_files(&rt) {
+        refuse(&rt, error);
     }
-    if new.error != 0 {
-        refuse_file(&rt, new.error);
-        return;
-    }
-    let n = old.length;
-    let m = new.length;
-    let layout = old.layout;
-    let other = new.layout;
-    show(&rt, layout, &old_bytes[0..n], other, &new_bytes[0..m]);
 }

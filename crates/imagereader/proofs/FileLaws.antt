@@ -1,88 +1,96 @@
 -- Laws of the calls: a text held to the text that is written again, and the answers.
-use Rattle.std.proofs.Common.{◌≡◌, ℕ, ◌-◌, ◌<◌, ◌≤◌, Bool, true, false, cond, List, ◌++◌, length, take, drop, sym, refl, ◌∙◌, true≢false, zero-add, arith, length-take-le, le-ltb, lt-ltb}
-use native.Mathlib.Nat.{sub-zero}
+use Rattle.std.proofs.Common.{◌≡◌, ℕ, ◌<◌, ◌≤◌, true, false, cond, List, [], ◌∷◌, ◌++◌, eqb, length, take, drop, refl, sym, ◌∙◌, zero-add, arith, length-take-le, le-ltb, lt-ltb}
+use Rattle.std.specs.Prelude.{Ok, Err}
+use lib.Pointwise.{pointwise}
 use lib.Seq.{sets, sets-eq}
 use Rattle.flashrules.specs.Error.{malformed, short_buffer}
 use Rattle.flashrules.specs.Outcome.{outcome}
 use Rattle.flashrules.specs.Choice.{same}
-use Rattle.flashrules.specs.Layout.{no_classes}
+use Rattle.flashrules.specs.declared.error.Error.{Error}
 use Rattle.flashrules.specs.declared.layout.Layout.{Layout}
-use Rattle.flashrules.proofs.Picks.{same_refl, same_eq, on_test}
+use Rattle.flashrules.proofs.ErrorLaws.{number_some}
+use Rattle.flashrules.proofs.Picks.{on_test}
 use Rattle.imagerules.specs.Text.{serialize_image, max_text}
 use Rattle.imagerules.specs.Candidate.{content, candidate}
 use Rattle.imagerules.specs.File.{holds, image_file, no_image_file, parse_image, check_error, not_read, read, write}
-use Rattle.imagerules.specs.declared.answer.FileRead.{FileRead}
-use Rattle.imagerules.specs.declared.answer.FileWritten.{FileWritten}
+use Rattle.imagerules.specs.Answer.{write_answer}
 use Rattle.imagerules.proofs.CallLaws.{wrote, not_wrote}
 
 -- ---- the comparison
 
-same_is : (xs ys : List ℕ) (u : Bool) → (u ≡ true → xs ≡ ys) → (xs ≡ ys → u ≡ true) → u ≡ cond (same xs ys) true false
-same_is xs ys true f g = rw (← f refl, same_refl xs)
-same_is xs ys false f g = on_test (same xs ys) (λ t. absurd (true≢false (sym (g (same_eq xs ys t))))) (λ t. rw t)
+same_is : (xs ys : List ℕ) → pointwise eqb xs ys ≡ cond (same xs ys) true false
+same_is [] [] = refl
+same_is [] (y ∷ ys) = refl
+same_is (x ∷ xs) [] = refl
+same_is (x ∷ xs) (y ∷ ys) =
+    on_test (eqb x y) (λ t. rw (t, same_is xs ys) (on_test (same xs ys) (λ s. rw s) (λ s. rw s))) (λ t. rw t)
 
--- w is what `write` answered, and r' what it left of the buffer r
-module _ (l : Layout) (image x r r' : List ℕ) (w : FileWritten) (p : outcome w r' ≡ write l image r) where
-  pub size_within : w.error ≡ 0 → w.length ≤ length r'
-  size_within e = (wrote l image r r' w p e).room
+-- r' is what `write` left of the buffer r
+module _ (l : Layout) (image x r r' : List ℕ) where
+  module _ (n : ℕ) (p : outcome (write_answer (Ok n)) r' ≡ write l image r) where
+    pub size_within : n ≤ length r'
+    size_within = (wrote l image r r' _ p refl).room
 
-  pub text_not : max_text ≤ length r → (w.error ≡ 0 → ⊥) → false ≡ holds (content l image) x
+    pub size_is : n ≡ length (take n r')
+    size_is = sym (length-take-le n r' size_within)
+
+    pub text_is : pointwise eqb (take n r') x ≡ holds (content l image) x
+    unfolding holds
+    text_is =
+        let v = wrote l image r r' _ p refl in
+        rw (v.fit, v.text) (same_is (serialize_image l image) x)
+
+  pub text_not : (e : Error) → outcome (write_answer (Err e)) r' ≡ write l image r → max_text ≤ length r → false ≡ holds (content l image) x
   unfolding holds
-  text_not h e = rw (not_wrote l image r r' w p h e)
+  text_not e p h = rw (not_wrote l image r r' _ p h (λ z. omega (arith, number_some e)))
 
-  pub text_is : w.error ≡ 0 → (u : Bool) → (u ≡ true → take (w.length - 0) (drop 0 r') ≡ x) → (take (w.length - 0) (drop 0 r') ≡ x → u ≡ true)
-      → u ≡ holds (content l image) x
-  unfolding holds
-  text_is e u f g =
-      let v = wrote l image r r' w p e in
-      let t : take (w.length - 0) r' ≡ serialize_image l image = rw sub-zero v.text in
-      rw v.fit (same_is (serialize_image l image) x u (λ a. sym t ∙ f a) (λ a. g (t ∙ a)))
+-- what proves `is_text_of`
+pub ruleset texts = (size_within, size_is, text_is, text_not)
 
--- a text held to its candidate, whose bytes are a part that was lent
-pub parsed_by : (l : Layout) (d x : List ℕ) (n : ℕ) (t : Bool) → content l (take n d) ≡ candidate x
-    → t ≡ holds (content l (take (n - 0) (drop 0 d))) x → t ≡ holds (candidate x) x
-parsed_by l d x n t e p = rw (sub-zero, e) at p
+-- ---- what is parsed
 
-module _ (x : List ℕ) (t : Bool) (p : t ≡ holds (candidate x) x) where
-  parse_bad : t ≡ false → parse_image x ≡ no_image_file
+module _ (x : List ℕ) where
+  parse_bad : holds (candidate x) x ≡ false → parse_image x ≡ no_image_file
   unfolding parse_image
-  parse_bad q = rw (← p, q)
+  parse_bad e = rw e
 
-  parse_good : (l : Layout) (image : List ℕ) → t ≡ true → content l image ≡ candidate x → parse_image x ≡ image_file l image
+  parse_good : holds (candidate x) x ≡ true → parse_image x ≡ image_file (candidate x).layout (candidate x).bytes
   unfolding parse_image
-  parse_good l image q e = rw (← p, q, ← e)
+  parse_good e = rw e
 
-  pub check_bad : t ≡ false → malformed ≡ check_error (parse_image x)
-  check_bad q = rw (parse_bad q)
+  pub check_bad : holds (candidate x) x ≡ false → check_error (parse_image x) ≡ malformed
+  check_bad e = rw (parse_bad e)
 
-  pub check_good : (l : Layout) (image : List ℕ) → t ≡ true → content l image ≡ candidate x → 0 ≡ check_error (parse_image x)
-  check_good l image q e = rw (parse_good l image q e)
+  pub check_good : holds (candidate x) x ≡ true → check_error (parse_image x) ≡ 0
+  check_good e = rw (parse_good e)
+
+-- what proves `check`
+pub ruleset checks = (check_bad, check_good)
 
 -- ---- reading
 
-pub not_read_lem : (e : ℕ) (l : Layout) → l ≡ no_classes → record { error = e; layout = l; length = 0 } ≡ not_read e
-not_read_lem e l p = rw p
-
-module _ (x r : List ℕ) (t : Bool) (p : t ≡ holds (candidate x) x) where
-  pub read_bad : (a : FileRead) → t ≡ false → a ≡ not_read malformed → outcome a r ≡ read x r
+module _ (x r : List ℕ) where
+  pub read_bad : holds (candidate x) x ≡ false → outcome (not_read malformed) r ≡ read x r
   unfolding read
-  read_bad a q e = rw (parse_bad x t p q, e)
+  read_bad e = rw (parse_bad x e)
 
-  module _ (q : t ≡ true) (l : Layout) (d : List ℕ) (n : ℕ) (e : content l (take n d) ≡ candidate x) (h : n ≤ length d) where
+  module _ (e : holds (candidate x) x ≡ true) (l : Layout) (d : List ℕ) (n : ℕ) (p : content l (take n d) ≡ candidate x) (h : n ≤ length d) where
     good : parse_image x ≡ image_file l (take n d)
-    good = parse_good x t p l (take n d) q e
+    good = parse_good x e ∙ rw (← p)
 
     long : length (take n d) ≡ n
     long = length-take-le n d h
 
-    pub read_short : (a : FileRead) → length r < n → a ≡ not_read short_buffer → outcome a r ≡ read x r
+    pub read_short : length r < n → outcome (not_read short_buffer) r ≡ read x r
     unfolding read
-    read_short a u s = rw (good, long, lt-ltb (length r) n u, s)
+    read_short u = rw (good, long, lt-ltb (length r) n u)
 
     -- the image is the part that was copied to the front
-    pub read_good : (part : List ℕ) → n ≤ length r → part ≡ take (n - 0) (drop 0 d)
-        → outcome (record { error = 0; layout = l; length = n }) (part ++ drop (n - 0) (drop 0 r)) ≡ read x r
+    pub read_good : n ≤ length r → outcome (record { error = 0; layout = l; length = n }) (take n d ++ drop n r) ≡ read x r
     unfolding read
-    read_good part u s =
-        let w : part ++ drop (n - 0) (drop 0 r) ≡ sets r 0 (take n d) = rw (s, sub-zero, sets-eq (take n d) r 0 (omega (arith, long)), zero-add, long) in
+    read_good u =
+        let w : take n d ++ drop n r ≡ sets r 0 (take n d) = rw (sets-eq (take n d) r 0 (omega (arith, long)), zero-add, long) in
         rw (good, long, le-ltb (length r) n u, w)
+
+-- what proves `read`
+pub ruleset reads = (read_bad, read_short, read_good)

@@ -10,14 +10,14 @@ use lib.Dec.{eqb}
 use lib.ListN.{length, take, drop, length-take, length-drop}
 use lib.Seq.{drop-drop}
 use borrow.Author.Tests.{eqb-true}
+use Rattle.flashrules.specs.Answer.{found}
 use Rattle.flashrules.specs.Layout.{Class, classes, locate}
 use Rattle.flashrules.specs.Lookup.{block_size, find_block}
 use Rattle.flashrules.specs.Image.{block_bytes}
-use Rattle.flashrules.specs.declared.lookup.Lookup.{Lookup}
 use Rattle.flashrules.proofs.Picks.{on_test, on_answer}
 use Rattle.flashrules.proofs.LayoutLaws.{fits_parts}
 use Rattle.flashrules.proofs.Laws.{exists_found}
-use Rattle.flashrules.proofs.LookupLaws.{locate_inside, placed}
+use Rattle.flashrules.proofs.LookupLaws.{same_found, locate_inside, placed}
 use Rattle.imagerules.specs.Text.{line, block_lines, class_text, class_texts, serialize_image}
 use Rattle.imagerules.specs.Laws.{PartOf, BlockLine}
 use Rattle.imagerules.proofs.TextLaws.{take_part, lines_some}
@@ -50,17 +50,16 @@ block_part zero i c bytes h = rw (lines_some i c bytes (omega arith), add-zero) 
 block_part (suc b) i c bytes h = block_behind b i c bytes h (block_part b i (c + 1) (drop block_size bytes) (rw length-drop (omega arith)))
 
 -- a part of the text of a class; the first class starts at `at`
-class_part : (at : ℕ) (cs : List Class) (i s n : ℕ) (p image : List ℕ) → locate at cs i ≡ Lookup.Found s n
+class_part : (at : ℕ) (cs : List Class) (i s n : ℕ) (p image : List ℕ) → locate at cs i ≡ found s n
     → PartOf p (class_text i (take n (drop s image))) → PartOf p (class_texts cs (drop at image))
 class_part at [] i s n p image e h = let z : ◌≡◌ {A = ℕ} 0 1 = cc in absurd (omega arith)
 class_part at (c ∷ cs) i s n p image e h =
     on_test (eqb c.id i)
     (λ t.
-    let q : Lookup.Found at c.len ≡ Lookup.Found s n = rw t at e in
+    let q : found s n ≡ found at c.len = sym (rw t at e) in
     let qi : i ≡ c.id = sym (eqb-true c.id i t) in
-    let qs : s ≡ at = cc in
-    let qn : n ≡ c.len = cc in
-    part_left _ (rw (qi, qs, qn) at h))
+    let g = same_found _ s n at c.len refl q in
+    part_left _ (rw (qi, g.0, g.1) at h))
     (λ t. part_right (class_text c.id (take c.len (drop at image))) (rw drop-drop (class_part (at + c.len) cs i s n p image (rw t at e) h)))
 
 pub block_line : BlockLine

@@ -10,8 +10,8 @@ use Rattle.flashrules.specs.Layout.{fits, no_classes}
 use Rattle.flashrules.specs.declared.layout.Layout.{Layout}
 use Rattle.imagerules.specs.Text.{serialize_image}
 use Rattle.imagerules.specs.Candidate.{Content, candidate}
-use Rattle.imagerules.specs.declared.answer.FileRead.{FileRead}
-use Rattle.imagerules.specs.declared.answer.FileWritten.{FileWritten}
+use Rattle.imagerules.specs.Answer.{FileReadAnswer}
+use Rattle.imagerules.specs.Answer.{FileWriteAnswer}
 
 -- ---- parsing (document 01: a file is judged)
 
@@ -34,28 +34,28 @@ check_error no_image_file = malformed
 -- ---- the calls
 
 -- reading a text into a buffer. A refused read answers a layout of no classes, all zero
-abbrev pub not_read : ℕ → FileRead
+abbrev pub not_read : ℕ → FileReadAnswer
 not_read e = record { error = e; layout = no_classes; length = 0 }
 
-abbrev pub read_parsed : ParsedImage → List ℕ → Outcome FileRead (List ℕ)
+abbrev pub read_parsed : ParsedImage → List ℕ → Outcome FileReadAnswer (List ℕ)
 read_parsed (image_file l image) buffer =
     cond (ltb (length buffer) (length image)) (outcome (not_read short_buffer) buffer)
     (outcome (record { error = 0; layout = l; length = length image }) (sets buffer 0 image))
 read_parsed no_image_file buffer = outcome (not_read malformed) buffer
 
-unfoldable pub read : List ℕ → List ℕ → Outcome FileRead (List ℕ)
+unfoldable pub read : List ℕ → List ℕ → Outcome FileReadAnswer (List ℕ)
 read x buffer = read_parsed (parse_image x) buffer
 
 -- writing a text into a buffer: 14 exactly where that is shorter than the whole text
-abbrev pub not_written : ℕ → FileWritten
+abbrev pub not_written : ℕ → FileWriteAnswer
 not_written e = record { error = e; length = 0 }
 
-abbrev pub write_text : List ℕ → List ℕ → Outcome FileWritten (List ℕ)
+abbrev pub write_text : List ℕ → List ℕ → Outcome FileWriteAnswer (List ℕ)
 write_text x buffer =
     cond (ltb (length buffer) (length x)) (outcome (not_written short_buffer) buffer)
     (outcome (record { error = 0; length = length x }) (sets buffer 0 x))
 
 -- writing a layout and an image
-unfoldable pub write : Layout → List ℕ → List ℕ → Outcome FileWritten (List ℕ)
+unfoldable pub write : Layout → List ℕ → List ℕ → Outcome FileWriteAnswer (List ℕ)
 write l image buffer =
     cond (fits l (length image)) (write_text (serialize_image l image) buffer) (outcome (not_written malformed) buffer)

@@ -1,11 +1,6 @@
--- Laws of `write`: what its calls say, and what it answers.
-use Prim.Native.Nat.{ℕ, ◌≤◌, ◌<◌}
-use mathlib.Core.Path.{◌≡◌, sym, ◌∙◌}
-use mathlib.Core.Bool.{Bool, true, false}
-use mathlib.Core.List.{List}
-use lib.ListN.{length}
-use lib.Seq.{sets}
-use borrow.Author.Tests.{lt-ltb, le-ltb}
+-- Laws of `write`: what it answers.
+use Rattle.std.proofs.Common.{ℕ, ◌≡◌, ◌<◌, ◌≤◌, true, false, List, length, lt-ltb, le-ltb}
+use Rattle.std.proofs.lemmas.List.Edits.{sets}
 use Rattle.flashrules.specs.Error.{malformed, short_buffer}
 use Rattle.flashrules.specs.Outcome.{outcome}
 use Rattle.flashrules.specs.Layout.{classes, valid, fits}
@@ -15,31 +10,23 @@ use Rattle.imagerules.specs.Text.{serialize_image, text_length}
 use Rattle.imagerules.specs.File.{not_written, write}
 use Rattle.imagerules.proofs.Laws.{text_length_lem}
 
--- ---- what a call of `fits` says, and one of `text_length` after it
+module _ (l : Layout) (image : List ℕ) where
+  pub fits_valid : fits l (length image) ≡ true → valid l ≡ true
+  fits_valid e = (fits_parts l (length image) e).0
 
-module _ (l : Layout) (n : ℕ) (t : Bool) (p : t ≡ fits l n) (q : t ≡ true) where
-  pub call_fits : fits l n ≡ true
-  call_fits = sym p ∙ q
-
-  pub call_valid : valid l ≡ true
-  call_valid = (fits_parts l n call_fits).0
-
-call_length : (l : Layout) (image : List ℕ) (t : Bool) → t ≡ fits l (length image) → t ≡ true → (n : ℕ) → n ≡ text_length (classes l)
-    → n ≡ length (serialize_image l image)
-call_length l image t p q n e = e ∙ sym (text_length_lem l image (call_fits l (length image) t p q))
-
--- ---- writing
-
-module _ (l : Layout) (image r : List ℕ) (t : Bool) (p : t ≡ fits l (length image)) where
-  pub write_bad : t ≡ false → outcome (not_written malformed) r ≡ write l image r
+  pub write_bad : (r : List ℕ) → fits l (length image) ≡ false → outcome (not_written malformed) r ≡ write l image r
   unfolding write
-  write_bad q = rw (← p, q)
+  write_bad r e = rw e
 
-  module _ (q : t ≡ true) (n : ℕ) (e : n ≡ text_length (classes l)) where
-    pub write_short : length r < n → outcome (not_written short_buffer) r ≡ write l image r
-    unfolding write
-    write_short h = rw (← p, q, ← call_length l image t p q n e, lt-ltb (length r) n h)
+  pub write_short : (r : List ℕ) → fits l (length image) ≡ true → length r < text_length (classes l)
+      → outcome (not_written short_buffer) r ≡ write l image r
+  unfolding write
+  write_short r e h = rw (e, text_length_lem l image e, lt-ltb (length r) (text_length (classes l)) h)
 
-    pub write_good : (r' : List ℕ) → n ≤ length r → r' ≡ sets r 0 (serialize_image l image) → outcome (record { error = 0; length = n }) r' ≡ write l image r
-    unfolding write
-    write_good r' h s = rw (← p, q, ← call_length l image t p q n e, le-ltb (length r) n h, s)
+  pub write_good : (r : List ℕ) → fits l (length image) ≡ true → text_length (classes l) ≤ length r
+      → outcome (record { error = 0; length = text_length (classes l) }) (sets r 0 (serialize_image l image)) ≡ write l image r
+  unfolding write
+  write_good r e h = rw (e, text_length_lem l image e, le-ltb (length r) (text_length (classes l)) h)
+
+-- what proves `write`
+pub ruleset calls = (fits_valid, write_bad, write_short, write_good)

@@ -6,34 +6,26 @@ mod text;
 
 ghost use Rattle.std.specs.Prelude.{◌≡◌};
 ghost use Rattle.flashrules.specs.Outcome.{outcome};
+ghost use Rattle.imagerules.specs.Answer.{write_answer};
 ghost use Rattle.imagerules.specs.File.{write};
 
 use crate::text::{put_text, text_length};
-use flashrules::error::{MALFORMED, SHORT_BUFFER};
+use flashrules::error::Error;
 use flashrules::layout::Layout;
-use imagerules::answer::FileWritten;
 use layout::valid::fits;
 
-// The text of a layout and its image, at the front of the buffer.
-pub fn write(layout: Layout, image: &[u8], buffer: &mut [u8]) -> FileWritten
-    ensures { outcome result buffer.new ≡ write layout image.now buffer.old }
+// The text of a layout and its image, at the front of the buffer: how long it is.
+#[tactic(auto, using(crate::proofs::CallLaws::calls))]
+pub fn write(layout: Layout, image: &[u8], buffer: &mut [u8]) -> Result<usize, Error>
+    ensures { outcome (write_answer result) buffer.new ≡ write layout image.now buffer.old }
 {
-    if fits(layout, image.len()) {
-        let size = text_length(layout);
-        if buffer.len() < size {
-            return FileWritten {
-                error: SHORT_BUFFER,
-                length: 0,
-            };
-        }
-        put_text(layout, image, buffer);
-        return FileWritten {
-            error: 0,
-            length: size,
-        };
+    if !fits(layout, image.len()) {
+        return Err(Error::Malformed);
     }
-    FileWritten {
-        error: MALFORMED,
-        length: 0,
+    let length = text_length(layout);
+    if buffer.len() < length {
+        return Err(Error::ShortBuffer);
     }
+    put_text(layout, image, buffer);
+    Ok(length)
 }

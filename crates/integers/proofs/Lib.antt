@@ -1,2 +1,3 @@
-pub mod Machine
 pub mod Laws
+pub mod ByteLaws
+pub mod KindLaws

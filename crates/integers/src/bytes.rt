@@ -1,74 +1,35 @@
 // An integer to its bytes, and bytes to their integer.
-ghost use Rattle.std.specs.Prelude.{◌≡◌, ◌^◌, ◌≤◌, ◌<◌, take, replicate};
+ghost use Rattle.std.specs.Prelude.{◌≡◌, take, replicate};
 ghost use Rattle.std.proofs.lemmas.List.Edits.{sets};
-ghost use Rattle.parameterrules.specs.Integer.{big_endian, magnitude_of, to_bytes, sign_of, from_bytes};
+ghost use Rattle.parameterrules.specs.Integer.{to_bytes, from_bytes};
 ghost use Rattle.parameterrules.specs.Kind.{max_width, width_of, is_signed};
+ghost use Rattle.integers.specs.Kind.{number};
 
-use crate::digit::{invert_if, weighed, weight};
-use crate::kind::{signed, width};
-use crate::sign::{integer, magnitude, negative};
+use crate::kind::Kind;
 use parameterrules::kind::MAX_WIDTH;
 
-// The lowest digits of n, so many, then zeros.
-fn big_endian(negative: bool, width: usize, n: u64) -> [u8; MAX_WIDTH]
-    requires { width ≤ max_width }
-    ensures { result ≡ sets (replicate max_width 0) 0 (big_endian negative width n) }
+// The bytes of an integer, then zeros. Of one that does not fit its kind they are the lowest bytes.
+#[tactic(auto, using(crate::proofs::ByteLaws::writes))]
+pub fn to_bytes(kind: Kind, value: i64) -> [u8; MAX_WIDTH]
+    ensures { result ≡ sets (replicate max_width 0) 0 (to_bytes (width_of (number kind)) value) }
 {
+    let width = kind.width();
     let mut bytes = [0u8; MAX_WIDTH];
-    let mut rest = n;
-    let mut i = 0;
-    let mut k = width;
-    while 0 < k {
-        k -= 1;
-        let w = weight(k);
-        bytes[i] = invert_if(negative, (rest / w % 256) as u8);
-        rest = rest % w;
-        i += 1;
-    }
+    bytes[..width].copy_from_slice(&value.cast_unsigned().to_be_bytes()[8 - width..]);
     bytes
 }
 
-// The bytes of an integer, then zeros. Of one that does not fit its kind they are the lowest bytes.
-pub fn to_bytes(kind: u8, value: i64) -> [u8; MAX_WIDTH]
-    ensures { result ≡ sets (replicate max_width 0) 0 (to_bytes (width_of kind) value) }
+// The integer that the first bytes are, as many as the kind has.
+#[tactic(auto, using(crate::proofs::ByteLaws::reads))]
+pub fn from_bytes(kind: Kind, bytes: [u8; MAX_WIDTH]) -> i64
+    ensures { result ≡ from_bytes (is_signed (number kind)) (take (width_of (number kind)) bytes) }
 {
-    big_endian(negative(value), width(kind), magnitude(value))
-}
-
-// The number whose digits the first bytes are, so many.
-fn magnitude_of(negative: bool, width: usize, bytes: [u8; MAX_WIDTH]) -> u64
-    requires { width ≤ max_width }
-    ensures { (result ≡ magnitude_of negative (take width bytes)) × (result < 2 ^ 63) }
-{
-    let mut sum: u64 = 0;
-    let mut i = 0;
-    let mut k = width;
-    while 0 < k {
-        k -= 1;
-        sum += weighed(invert_if(negative, bytes[i]), k);
-        i += 1;
+    match kind {
+        Kind::U8 => i64::from(bytes[0]),
+        Kind::U16 => i64::from(u16::from_be_bytes([bytes[0], bytes[1]])),
+        Kind::U32 => i64::from(u32::from_be_bytes(bytes)),
+        Kind::I8 => i64::from(i8::from_be_bytes([bytes[0]])),
+        Kind::I16 => i64::from(i16::from_be_bytes([bytes[0], bytes[1]])),
+        Kind::I32 => i64::from(i32::from_be_bytes(bytes)),
     }
-    sum
-}
-
-// Whether bytes that begin with this one are those of a negative integer.
-fn sign_of(signed: bool, byte: u8) -> bool
-    ensures { result ≡ sign_of signed byte }
-{
-    if signed {
-        return 128 <= byte;
-    }
-    false
-}
-
-// The integer that the first bytes are, as many as the kind has; 0 where the number is no kind.
-pub fn from_bytes(kind: u8, bytes: [u8; MAX_WIDTH]) -> i64
-    ensures { result ≡ from_bytes (is_signed kind) (take (width_of kind) bytes) }
-{
-    let width = width(kind);
-    if width == 0 {
-        return 0;
-    }
-    let negative = sign_of(signed(kind), bytes[0]);
-    integer(negative, magnitude_of(negative, width, bytes))
 }

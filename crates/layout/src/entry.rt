@@ -1,28 +1,27 @@
-// The entries of a layout as numbers to be added up. A loop of this crate widens them where it
-// stands: a call that takes the layout copies it.
-ghost use Rattle.std.specs.Prelude.{◌≡◌, ◌<◌, get_or};
+// The entries of a layout as numbers to be added up.
+ghost use Rattle.std.specs.Prelude.{◌≡◌, ◌<◌, ◌≤◌, length, get_or};
+ghost use Rattle.flashrules.specs.Layout.{max_classes, classes};
+ghost use Rattle.layout.specs.Entries.{entries_left};
 
-use flashrules::layout::{Layout, MAX_CLASSES};
+use flashrules::layout::Layout;
+use std::iter::{Take, Zip};
+use std::slice::Iter;
 
-// Widened by a call: a cast of an array's element would ask each caller for the element's range.
-pub(crate) fn wide8(x: u8) -> usize
-    ensures { (result ≡ x) × (result < 256) }
+// The entries in use, each an identifier and a length.
+#[tactic(auto, using(crate::proofs::EntryLaws::starts))]
+pub fn entries(layout: &Layout) -> Take<Zip<Iter<'_, u8>, Iter<'_, u16>>>
+    ensures left { entries_left result ≡ classes layout.now }
+    ensures few { length (entries_left result) ≤ max_classes }
 {
-    x as usize
-}
-
-pub(crate) fn wide16(x: u16) -> usize
-    ensures { (result ≡ x) × (result < 65536) }
-{
-    x as usize
+    layout.ids.iter().zip(&layout.lengths).take(layout.count)
 }
 
 // How many bytes the class with an index has, 0 past the last entry.
 pub fn length_at(layout: Layout, k: usize) -> usize
     ensures { (result ≡ get_or layout.lengths k 0) × (result < 65536) }
 {
-    if k < MAX_CLASSES {
-        return wide16(layout.lengths[k]);
+    match layout.lengths.get(k) {
+        Some(len) => usize::from(*len),
+        None => 0,
     }
-    0
 }

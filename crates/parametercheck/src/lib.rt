@@ -4,4 +4,5 @@
 #![tactic(auto)]
 
 pub mod error;
+pub mod row;
 pub mod valid;

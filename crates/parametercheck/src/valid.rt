@@ -1,45 +1,36 @@
 // Which parameters are valid (document 01: sound), and which values are in range.
-ghost use Rattle.std.specs.Prelude.{◌≡◌, [], ◌∷◌};
-ghost use Rattle.flashrules.specs.Choice.{and};
-ghost use Rattle.parameterrules.specs.Kind.{holds};
+ghost use Rattle.std.specs.Prelude.{◌≡◌};
 ghost use Rattle.parameterrules.specs.Parameter.{valid, in_range};
 
-use integers::kind::{holds, width};
+use crate::row::Row;
+use integers::kind::Kind;
 use parameterrules::parameter::Parameter;
 
-// Whether two integers fit a kind.
-fn hold_both(kind: u8, min: i64, max: i64) -> bool
-    ensures { result ≡ and (holds kind min ∷ holds kind max ∷ []) }
+// Whether a parameter is valid, once its kind is known.
+#[tactic(auto, using(crate::proofs::KindLaws::valids))]
+pub(crate) fn valid_of(row: Row) -> bool
+    ensures { result ≡ valid row.parameter }
 {
-    if holds(kind, min) {
-        return holds(kind, max);
-    }
-    false
+    let Row { parameter, kind } = row;
+    let Parameter { min, max, .. } = parameter;
+    min <= max && kind.holds(min) && kind.holds(max)
 }
 
 // Whether a parameter is valid.
+#[tactic(auto, using(crate::proofs::KindLaws::kinds))]
 pub fn valid(parameter: Parameter) -> bool
     ensures { result ≡ valid parameter }
 {
-    let kind = parameter.kind;
-    let min = parameter.min;
-    let max = parameter.max;
-    if 1 <= width(kind) {
-        if min <= max {
-            return hold_both(kind, min, max);
-        }
+    match Kind::try_from(parameter.kind) {
+        Ok(kind) => valid_of(Row { parameter, kind }),
+        Err(_) => false,
     }
-    false
 }
 
 // Whether a value is in a parameter's range.
+#[tactic(auto, unfolding(parameterrules::specs::Parameter::in_range))]
 pub fn in_range(parameter: Parameter, value: i64) -> bool
     ensures { result ≡ in_range parameter value }
 {
-    let min = parameter.min;
-    let max = parameter.max;
-    if min <= value {
-        return value <= max;
-    }
-    false
+    parameter.min <= value && value <= parameter.max
 }

@@ -10,12 +10,11 @@ use lib.Seq.{length-take-le}
 use lib.IntN.{ℤ}
 use borrow.Author.Tests.{ltb-true, ltb-false, lt-ltb, leb-true, not-false}
 use Rattle.flashrules.specs.Refusal.{Numbered}
-use Rattle.flashrules.specs.Answer.{start_of}
+use Rattle.flashrules.specs.Answer.{Lookup, found, start_of}
 use Rattle.flashrules.specs.Layout.{max_image_length, classes, fits}
 use Rattle.flashrules.specs.Lookup.{block_size, find_class, find_block}
 use Rattle.flashrules.specs.Image.{max_byte}
 use Rattle.flashrules.specs.declared.layout.Layout.{Layout}
-use Rattle.flashrules.specs.declared.lookup.Lookup.{Lookup}
 use Rattle.flashrules.proofs.Laws.{no_error}
 use Rattle.flashrules.proofs.LayoutLaws.{valid_parts, fits_parts}
 use Rattle.flashrules.proofs.LookupLaws.{locate_inside}
@@ -34,13 +33,13 @@ pub record Readable (l : Layout) (size : ℕ) (p : Parameter) : Type 0 where
   pub len : ℕ
   pub fitting : fits l size ≡ true
   pub sound : valid p ≡ true
-  pub class : find_class l p.class ≡ Lookup.Found base len
+  pub class : find_class l p.class ≡ found base len
   pub inside : p.offset + width_of p.kind ≤ len
   pub end : base + len ≤ size
   pub small : size ≤ max_image_length
 
 -- the class lies inside the image, and the image is small
-class_inside : (l : Layout) (size i s n : ℕ) → fits l size ≡ true → find_class l i ≡ Lookup.Found s n → (s + n ≤ size) × (size ≤ max_image_length)
+class_inside : (l : Layout) (size i s n : ℕ) → fits l size ≡ true → find_class l i ≡ found s n → (s + n ≤ size) × (size ≤ max_image_length)
 unfolding find_class
 class_inside l size i s n f q =
     let p = fits_parts l size f in
@@ -120,15 +119,15 @@ upper_length p v = rw (length-drop, to_bytes_length (width_of p.kind) v)
 pub record InBlock (l : Layout) (size i at n : ℕ) : Type 0 where
   pub start : ℕ
   pub len : ℕ
-  pub found : find_block l size i (at / block_size) ≡ Lookup.Found start len
+  pub found : find_block l size i (at / block_size) ≡ found start len
   pub some : 1 ≤ n
   pub end : at % block_size + n ≤ len
   pub place : start + at % block_size ≡ start_of (find_class l i) + at
   pub byte : at / block_size ≤ max_byte
 
 -- the lookup of a block of a class that was found
-block_of : (l : Layout) (size i b s n : ℕ) → fits l size ≡ true → find_class l i ≡ Lookup.Found s n → block_size * b < n
-    → find_block l size i b ≡ Lookup.Found (s + block_size * b) (min block_size (n - block_size * b))
+block_of : (l : Layout) (size i b s n : ℕ) → fits l size ≡ true → find_class l i ≡ found s n → block_size * b < n
+    → find_block l size i b ≡ found (s + block_size * b) (min block_size (n - block_size * b))
 unfolding find_class find_block
 block_of l size i b s n f q h =
     let c = rw (fits_parts l size f).0 at q in

@@ -1,3 +1,5 @@
+// Stays: both are C's structs, so a kind and a refusal are numbers here. `integers::kind::Kind` and
+// `Value` are what the code goes by.
 // A parameter (document 01: a parameter row). Numbers only, so that a host program can hold it and
 // any row whatever can be passed; whether one is valid is a test.
 #[repr(C)]
@@ -18,6 +20,13 @@ pub struct Parameter {
 #[derive(Clone, Copy)]
 pub struct ParameterValue {
     pub error: u8,
+    pub value: i64,
+    pub in_range: bool,
+}
+
+// A parameter's value as it is read.
+#[derive(Clone, Copy, Debug, PartialEq, Eq)]
+pub struct Value {
     pub value: i64,
     pub in_range: bool,
 }

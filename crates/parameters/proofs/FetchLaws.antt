@@ -2,11 +2,10 @@
 -- for word.
 use Prim.Native.Nat.{ℕ, ◌+◌, ◌-◌, ◌/◌, ◌%◌, ◌≤◌, ◌<◌}
 use mathlib.Core.Path.{◌≡◌, refl, sym, ap, ◌∙◌}
-use mathlib.Core.List.{List, [], ◌∷◌, ◌++◌, append_assoc, append-nil}
-use native.Mathlib.Nat.{sub-zero}
+use mathlib.Core.List.{List, [], ◌++◌, append_assoc, append-nil}
 use native.Mathlib.Omega.{arith}
-use lib.ListN.{length, get_or, take, drop, replicate, length-append, length-take, length-drop, take-append-drop}
-use lib.Seq.{take_at, drop_at, drop-length, take-add, drop-drop, length-take-le}
+use lib.ListN.{length, get_or, take, drop, take-append-drop}
+use lib.Seq.{take_at, take_all, drop_at, drop-length, take-add, drop-drop, length-take-le}
 use lib.IntN.{ℤ}
 use mir.Syntax.{w8}
 use mir.Val.{Fits}
@@ -24,13 +23,13 @@ use Rattle.gaugerules.specs.Script.{Device, device, after_call}
 use Rattle.gaugerules.specs.BlockAccess.{block_selected}
 use Rattle.gaugerules.specs.declared.state.Gauge.{Gauge}
 use Rattle.parameterrules.specs.Integer.{from_bytes}
-use Rattle.parameterrules.specs.Kind.{max_width, width_of, is_signed}
+use Rattle.parameterrules.specs.Kind.{width_of, is_signed}
 use Rattle.parameterrules.specs.Parameter.{get_error, start_in, row_bytes, value_in}
 use Rattle.parameterrules.specs.Commits.{lower_width}
 use Rattle.parameterrules.specs.declared.parameter.Parameter.{Parameter}
 use Rattle.parameterrules.proofs.PlaceLaws.{Readable, readable, bytes_end, InBlock, in_lower, in_upper}
 use Rattle.parameterrules.proofs.GaugeLaws.{Open, block_selects, selected_open, block_reads}
-use Rattle.parameters.specs.Access.{opened, selected_at, lower_selected}
+use Rattle.parameters.specs.Access.{opened, selected_at}
 use Rattle.parameters.proofs.RowLaws.{byte_of, open_gauge, powered_selects, powered_open}
 
 -- ---- what is read
@@ -72,80 +71,59 @@ module _ (l : Layout) (image : List ℕ) (p : Parameter) (e : get_error l (lengt
   lower_long : length (take (lower_width p) (drop (start_in l p) image)) ≡ lower_width p
   lower_long = part_length image (start_in l p) (lower_width p) (omega (arith, bytes_end l (length image) p at_row))
 
-  -- with the lower block loaded
-  module _ (g : Gauge) (image₁ : List ℕ) (q : device g image₁ ≡ lower_selected l image p) where
+  row_long : length (row_bytes l image p) ≡ width_of p.kind
+  row_long = part_length image (start_in l p) (width_of p.kind) (bytes_end l (length image) p at_row)
+
+  -- a gauge just powered on loads the lower block, and those of the bytes that lie there are read
+  module _ {g₀ : Gauge} {image₀ : List ℕ} (o : device g₀ image₀ ≡ opened l image) {at : ℕ} (w : at ≡ p.offset) {g : Gauge} {image₁ : List ℕ}
+      (q : device g image₁ ≡ selected_at l (device g₀ image₀) p.class at) {k : ℕ} (a : k ≡ lower_width p) (z : List ℕ) {b : List ℕ} (m : k ≡ length z)
+      (r : b ≡ (read l image₁ g (block_data + at % block_size) (length z) z).lent) where
     by_open : device g image₁ ≡ selected_at l (device open_gauge image) p.class p.offset
-    by_open = q ∙ ap (λ (d : Device). selected_at l d p.class p.offset) is_open
+    by_open = rw (w, o, is_open) at q
+
+    in_lower_block : InBlock l (length image) p.class p.offset (lower_width p)
+    in_lower_block = in_lower l (length image) p at_row
 
     is_lower : device g image₁ ≡ device (block_selected l image open_gauge p.class (p.offset / block_size)) image
-    is_lower = selected l image open_gauge p.class p.offset (lower_width p) stands (in_lower l (length image) p at_row) (byte_of p.class hc) g image₁ by_open
+    is_lower = selected l image open_gauge p.class p.offset (lower_width p) stands in_lower_block (byte_of p.class hc) g image₁ by_open
 
-    module _ (k : ℕ) (a : k ≡ lower_width p) (z : List ℕ) (m : width_of p.kind - lower_width p ≡ length z) where
+    lower_read : b ≡ take (lower_width p) (row_bytes l image p)
+    lower_read =
+        received l image open_gauge p.class p.offset (lower_width p) stands in_lower_block (byte_of p.class hc) g image₁ by_open z b (sym a ∙ m) (rw w at r)
+        ∙ rw (row_split, take_at _ (take (width_of p.kind - lower_width p) (drop (start_in l p + lower_width p) image)) (lower_width p) lower_long)
+
+    -- they are all
+    pub fetches_one : (zs : List ℕ) → (k < width_of p.kind → ⊥) → take (width_of p.kind) (b ++ zs) ≡ row_bytes l image p
+    fetches_one zs s =
+        let row = row_bytes l image p in
+        let all : lower_width p ≡ width_of p.kind = omega (arith, s) in
+        let whole : b ≡ row = lower_read ∙ rw all (take_all (width_of p.kind) row (omega (arith, row_long))) in
+        rw whole (take_at row zs (width_of p.kind) row_long)
+
+    -- then it loads the upper block, and the others are read there
+    module _ (s : k < width_of p.kind) {g₂ : Gauge} {image₂ : List ℕ} (q₂ : device g₂ image₂ ≡ selected_at l (device g image₁) p.class (at + k))
+        (z₂ : List ℕ) {b₂ : List ℕ} (m₂ : width_of p.kind - k ≡ length z₂) (r₂ : b₂ ≡ (read l image₂ g₂ (block_data + (at + k) % block_size) (length z₂) z₂).lent) where
       behind : drop (lower_width p) (row_bytes l image p) ≡ take (width_of p.kind - lower_width p) (drop (start_in l p + lower_width p) image)
       behind = rw (row_split, drop_at (take (lower_width p) (drop (start_in l p) image)) _ (lower_width p) lower_long)
 
-      pub fetches_upper : (g₂ : Gauge) (image₂ to : List ℕ) → device g₂ image₂ ≡ selected_at l (device g image₁) p.class (p.offset + k)
-          → to ≡ (read l image₂ g₂ (block_data + (p.offset + k) % block_size) (length z) z).lent → 0 < length z → to ≡ drop (lower_width p) (row_bytes l image p)
-      fetches_upper g₂ image₂ to q₂ r s =
-          let at = p.offset + lower_width p in
+      upper_read : b₂ ≡ drop (lower_width p) (row_bytes l image p)
+      upper_read =
+          let from = p.offset + lower_width p in
           let n = width_of p.kind - lower_width p in
-          let low = in_lower l (length image) p at_row in
-          let still = selected_open l image open_gauge p.class p.offset (lower_width p) stands low (byte_of p.class hc) in
-          let place = in_upper l (length image) p at_row (lt-ltb (lower_width p) (width_of p.kind) (omega arith)) in
-          let from : start_of (find_class l p.class) + at ≡ start_in l p + lower_width p = omega arith in
-          let loaded = rw a at (q₂ ∙ ap (λ (d : Device). selected_at l d p.class (p.offset + k)) is_lower) in
-          rw (behind, ← from)
-          (received l image (block_selected l image open_gauge p.class (p.offset / block_size)) p.class at n still place (byte_of p.class hc) g₂ image₂ loaded z to m
-          (rw a at r))
+          let still = selected_open l image open_gauge p.class p.offset (lower_width p) stands in_lower_block (byte_of p.class hc) in
+          let place = in_upper l (length image) p at_row (lt-ltb (lower_width p) (width_of p.kind) (rw a at s)) in
+          let start : start_of (find_class l p.class) + from ≡ start_in l p + lower_width p = omega arith in
+          let loaded = rw (a, w, is_lower) at q₂ in
+          rw (behind, ← start)
+          (received l image (block_selected l image open_gauge p.class (p.offset / block_size)) p.class from n still place (byte_of p.class hc) g₂ image₂ loaded z₂ b₂ (rw a at m₂)
+          (rw (a, w) at r₂))
 
-      pub fetches_none : length z ≤ 0 → z ≡ drop (lower_width p) (row_bytes l image p)
-      fetches_none s =
-          let none : width_of p.kind - lower_width p ≡ 0 = omega arith in
-          rw (behind, none) (empty z s)
-        where
-          empty : (x : List ℕ) → length x ≤ 0 → x ≡ []
-          empty [] t = refl
-          empty (y ∷ x) t = absurd (omega arith)
-
-  -- it is loaded by a gauge just powered on
-  module _ (g₀ : Gauge) (image₀ : List ℕ) (o : device g₀ image₀ ≡ opened l image) (g : Gauge) (image₁ : List ℕ)
-      (q : device g image₁ ≡ selected_at l (device g₀ image₀) p.class p.offset) where
-    loads : device g image₁ ≡ lower_selected l image p
-    loads = q ∙ ap (λ (d : Device). selected_at l d p.class p.offset) o
-
-    pub image_stays : image₁ ≡ image
-    image_stays = ap (λ (d : Device). d.image) (is_lower g image₁ loads)
-
-    pub lower_loaded : device g image₁ ≡ lower_selected l image₁ p
-    lower_loaded = rw (← image_stays) at loads
-
-    pub fetches_lower : (z to : List ℕ) → lower_width p ≡ length z → to ≡ (read l image₁ g (block_data + p.offset % block_size) (length z) z).lent
-        → to ≡ take (lower_width p) (row_bytes l image p)
-    fetches_lower z to m r =
-        received l image open_gauge p.class p.offset (lower_width p) stands (in_lower l (length image) p at_row) (byte_of p.class hc) g image₁ (by_open g image₁ loads) z to m r
-        ∙ rw (row_split, take_at _ (take (width_of p.kind - lower_width p) (drop (start_in l p + lower_width p) image)) (lower_width p) lower_long)
-
--- ---- both parts, in a buffer of zeros
-
-abbrev zeros : List ℕ
-zeros = replicate max_width 0
-
-pub room_left : (n k : ℕ) (xs : List ℕ) → n ≤ max_width → k ≤ max_width → length xs ≡ length (take (k - 0) zeros) → n ≤ length (xs ++ drop (k - 0) zeros)
-room_left n k xs most few m =
-    omega (arith, m, length-append xs (drop (k - 0) zeros), length-drop (k - 0) zeros, length-take (k - 0) zeros)
-
-module _ (l : Layout) (image image₁ : List ℕ) (p : Parameter) (same : image₁ ≡ image) (e : get_error l (length image) p ≡ 0) where
-  pub still_free : get_error l (length image₁) p ≡ 0
-  still_free = rw same e
-
-  pub fetches : (k : ℕ) → k ≡ lower_width p → (b₁ b₂ zs us : List ℕ) → b₁ ≡ take (lower_width p) (row_bytes l image p) → b₂ ≡ drop (lower_width p) (row_bytes l image₁ p)
-      → take (width_of p.kind) (take k (b₁ ++ zs) ++ (b₂ ++ us)) ≡ row_bytes l image p
-  fetches k a b₁ b₂ zs us r₁ r₂ =
-      let row = row_bytes l image p in
-      let long : length row ≡ width_of p.kind = part_length image (start_in l p) (width_of p.kind) (bytes_end l (length image) p (readable l (length image) p e)) in
-      let front : length b₁ ≡ k = rw r₁ (length-take-le (lower_width p) row (omega (arith, long)) ∙ sym a) in
-      let whole : b₁ ++ b₂ ≡ row = rw (r₁, r₂, same) (take-append-drop (lower_width p) row) in
-      rw (take_at b₁ zs k front, ← append_assoc b₁ b₂ us, whole) (take_at row us (width_of p.kind) long)
+      pub fetches_both : (zs us : List ℕ) → take (width_of p.kind) (take k (b ++ zs) ++ (b₂ ++ us)) ≡ row_bytes l image p
+      fetches_both zs us =
+          let row = row_bytes l image p in
+          let front : length b ≡ k = rw lower_read (length-take-le (lower_width p) row (omega (arith, row_long)) ∙ sym a) in
+          let whole : b ++ b₂ ≡ row = rw (lower_read, upper_read) (take-append-drop (lower_width p) row) in
+          rw (take_at b zs k front, ← append_assoc b b₂ us, whole) (take_at row us (width_of p.kind) row_long)
 
 -- ---- a copy of the image, in front of a buffer that has room for every image
 
@@ -153,12 +131,13 @@ pub image_small : (l : Layout) (image : List ℕ) (p : Parameter) → get_error 
 image_small l image p e = (readable l (length image) p e).small
 
 -- an image copied to the front of a buffer
-module _ (l : Layout) (image : List ℕ) (p : Parameter) (buffer copy : List ℕ)
-    (c : copy ≡ image ++ drop (length image - 0) (drop 0 buffer)) where
-  copied : take (length image - 0) copy ≡ image
-  copied = rw (sub-zero, c) (take_at image (drop (length image - 0) (drop 0 buffer)) (length image) refl)
+module _ (l : Layout) (image : List ℕ) (p : Parameter) (buffer copy : List ℕ) (c : copy ≡ image ++ drop (length image) buffer) where
+  copied : take (length image) copy ≡ image
+  copied = rw c (take_at image (drop (length image) buffer) (length image) refl)
 
-  pub value_read : (bytes : List ℕ) (v : ℤ) → take (width_of p.kind) bytes ≡ row_bytes l (take (length image - 0) (drop 0 copy)) p
-      → v ≡ from_bytes (is_signed p.kind) (take (width_of p.kind) bytes) → v ≡ value_in l image p
+  pub value_read : (n : ℕ) → n ≡ p.kind → (bytes : List ℕ) (v : ℤ) → take (width_of p.kind) bytes ≡ row_bytes l (take (length image) copy) p
+      → v ≡ from_bytes (is_signed n) (take (width_of n) bytes) → v ≡ value_in l image p
   unfolding value_in
-  value_read bytes v f e = rw (f, copied) at e
+  value_read n k bytes v f e = rw (k, f, copied) at e
+
+pub ruleset copies = (image_small, length-take-le)

@@ -52,10 +52,6 @@ module _ (l : Layout) (image : List ℕ) (f : fits l (length image) ≡ true) (h
 pub free_of_set : (l : Layout) (n : ℕ) (p : Parameter) (v : ℤ) → set_error l n p v ≡ 0 → get_error l n p ≡ 0
 free_of_set l n p v e = (settable l n p v e).0
 
--- one that may be set may be so in every image of that length
-pub free_of_size : (l : Layout) (a b : List ℕ) (p : Parameter) (v : ℤ) → length b ≡ length a → set_error l (length a) p v ≡ 0 → set_error l (length b) p v ≡ 0
-free_of_size l a b p v n e = rw n e
-
 -- ---- where its bytes lie
 
 module _ (l : Layout) (n : ℕ) (p : Parameter) (e : get_error l n p ≡ 0) where

@@ -1,17 +1,16 @@
 -- What the calls give that write a value's bytes. The premises are what the callees ensure, word
 -- for word.
-use Prim.Native.Nat.{ℕ, ◌+◌, ◌-◌, ◌/◌, ◌%◌, ◌≤◌, ◌<◌}
+use Prim.Native.Nat.{ℕ, ◌+◌, ◌-◌, ◌/◌, ◌%◌, ◌<◌}
 use mathlib.Core.Path.{◌≡◌, ap, ◌∙◌}
-use mathlib.Core.Bool.{true}
+use mathlib.Core.Bool.{true, cond}
 use mathlib.Core.List.{List, ◌++◌}
-use native.Mathlib.Nat.{sub-zero}
 use native.Mathlib.Omega.{arith}
 use lib.ListN.{length, get_or, take, drop, replicate}
 use lib.Seq.{sets, sets-eq, take_at, take-append-le, drop-append-le}
 use lib.IntN.{ℤ}
 use mir.Syntax.{w8}
 use mir.Val.{Fits}
-use borrow.Author.Tests.{lt-ltb, le-ltb}
+use borrow.Author.Tests.{lt-ltb}
 use Rattle.flashrules.specs.Outcome.{outcome}
 use Rattle.flashrules.specs.Lookup.{block_size}
 use Rattle.flashrules.specs.declared.layout.Layout.{Layout}
@@ -28,43 +27,44 @@ use Rattle.parameterrules.specs.declared.parameter.Parameter.{Parameter}
 use Rattle.parameterrules.proofs.IntegerLaws.{to_bytes_length}
 use Rattle.parameterrules.proofs.PlaceLaws.{Readable, readable, width_most, upper_length}
 use Rattle.parameterrules.proofs.GaugeLaws.{Open, lower_gauge, lower_writes, upper_writes}
-use Rattle.parameters.specs.Access.{opened, sent_at, first_commit, second_commit, set_on_gauge}
+use Rattle.parameters.specs.Access.{opened, sent_at, first_commit, set_on_gauge}
 use Rattle.parameters.proofs.RowLaws.{byte_of, open_gauge, powered_selects, powered_open, free_of_set}
+
+-- those of a value's bytes for the upper block are sent, where there are any
+abbrev second_commit : Layout → Device → Parameter → ℤ → Device
+second_commit l d p v =
+    cond (crosses_block p) (sent_at l d p.class (p.offset + lower_width p) (upper_bytes p v)) d
 
 -- ---- a value's bytes, with zeros behind them
 
-module _ (p : Parameter) (u v : ℤ) (x : u ≡ v) (k : ℕ) (a : k ≡ lower_width p) (bytes : List ℕ)
-    (t : bytes ≡ sets (replicate max_width 0) 0 (to_bytes (width_of p.kind) u)) where
+module _ (p : Parameter) (m : ℕ) (i : m ≡ p.kind) (u v : ℤ) (x : u ≡ v) (k : ℕ) (a : k ≡ lower_width p) (bytes : List ℕ)
+    (t : bytes ≡ sets (replicate max_width 0) 0 (to_bytes (width_of m) u)) where
   abbrev value : List ℕ
   value = to_bytes (width_of p.kind) v
 
   in_front : bytes ≡ value ++ drop (0 + length value) (replicate max_width 0)
-  in_front = t ∙ rw x (sets-eq value (replicate max_width 0) 0 (omega (arith, to_bytes_length (width_of p.kind) v, width_most p.kind)))
+  in_front = t ∙ rw (i, x) (sets-eq value (replicate max_width 0) 0 (omega (arith, to_bytes_length (width_of p.kind) v, width_most p.kind)))
 
-  front_lower : take (k - 0) (drop 0 bytes) ≡ lower_bytes p v
+  front_lower : take k bytes ≡ lower_bytes p v
   front_lower =
-      rw (sub-zero, in_front, a)
+      rw (in_front, a)
       (take-append-le (lower_width p) value _ (omega (arith, to_bytes_length (width_of p.kind) v)))
 
-  front_upper : (n : ℕ) → n ≡ width_of p.kind → take (n - k) (drop k bytes) ≡ upper_bytes p v
+  front_upper : (n : ℕ) → n ≡ width_of m → take (n - k) (drop k bytes) ≡ upper_bytes p v
   front_upper n w =
-      rw (in_front, a, w, drop-append-le (lower_width p) value (drop (0 + length value) (replicate max_width 0)) (omega (arith, to_bytes_length (width_of p.kind) v)))
+      rw (in_front, a, w, i, drop-append-le (lower_width p) value (drop (0 + length value) (replicate max_width 0)) (omega (arith, to_bytes_length (width_of p.kind) v)))
       (take_at (upper_bytes p v) _ (width_of p.kind - lower_width p) (upper_length p v))
 
   -- they are sent
   pub sends_lower : (l : Layout) (image : List ℕ) (g : Gauge) (image₀ : List ℕ) (d : Device) → device g image₀ ≡ opened l image
-      → d ≡ sent_at l (device g image₀) p.class p.offset (take (k - 0) (drop 0 bytes)) → d ≡ first_commit l image p v
+      → d ≡ sent_at l (device g image₀) p.class p.offset (take k bytes) → d ≡ first_commit l image p v
   sends_lower l image g image₀ d o e = e ∙ rw (o, front_lower)
 
-  pub sends_upper : (l : Layout) (d₀ d : Device) (n : ℕ) → n ≡ width_of p.kind → k < n
+  pub sends_upper : (l : Layout) (d₀ d : Device) (n : ℕ) → n ≡ width_of m → k < n
       → d ≡ sent_at l d₀ p.class (p.offset + k) (take (n - k) (drop k bytes)) → d ≡ second_commit l d₀ p v
   sends_upper l d₀ d n w s e =
-      let crosses : crosses_block p ≡ true = rw (← a, ← w) (lt-ltb k n s) in
+      let crosses : crosses_block p ≡ true = rw (← a, ← i, ← w) (lt-ltb k n s) in
       e ∙ rw (front_upper n w, a, crosses)
-
--- where there are none
-pub sends_none : (p : Parameter) (v : ℤ) (l : Layout) (d : Device) (k n : ℕ) → k ≡ lower_width p → n ≡ width_of p.kind → n ≤ k → d ≡ second_commit l d p v
-sends_none p v l d k n a w s = rw (← a, ← w, le-ltb k n s)
 
 -- ---- what is sent
 
@@ -98,12 +98,11 @@ module _ (l : Layout) (image : List ℕ) (p : Parameter) (v : ℤ) (e : set_erro
       (λ c. rw (c, opens.accepted, lower.select, lower.edit, lower.commit))
 
 -- a value u that was passed is v
-module _ (l : Layout) (image : List ℕ) (p : Parameter) (v u : ℤ) where
-  pub stores : (g : Gauge) (image₁ : List ℕ) (d : Device) → d ≡ second_commit l (device g image₁) p u → device g image₁ ≡ first_commit l image p u → u ≡ v
-      → set_error l (length image) p v ≡ 0 → ((k : ℕ) → Fits w8 (get_or image k 0)) → Fits w8 p.class → d ≡ set_on_gauge l image p v
-  stores g image₁ d r q x e h hc = r ∙ rw (q, x) (sends_both l image p v e h hc)
+module _ (l : Layout) (image : List ℕ) (p : Parameter) {v u : ℤ} {g : Gauge} {to : List ℕ} (q : device g to ≡ first_commit l image p u) (x : u ≡ v)
+    (e : set_error l (length image) p v ≡ 0) (h : (k : ℕ) → Fits w8 (get_or image k 0)) (hc : Fits w8 p.class) where
+  pub stores : {d : Device} → d ≡ second_commit l (device g to) p u → d ≡ set_on_gauge l image p v
+  stores r = r ∙ rw (q, x) (sends_both l image p v e h hc)
 
   -- what the first leaves
-  pub first_leaves : (g : Gauge) (to : List ℕ) → device g to ≡ first_commit l image p u → u ≡ v → set_error l (length image) p v ≡ 0
-      → ((k : ℕ) → Fits w8 (get_or image k 0)) → Fits w8 p.class → to ≡ between_commits l image p v
-  first_leaves g to q x e h hc = ap (λ (d : Device). d.image) (q ∙ ap (first_commit l image p) x ∙ first l image p v e h hc)
+  pub first_leaves : to ≡ between_commits l image p v
+  first_leaves = ap (λ (d : Device). d.image) (q ∙ ap (first_commit l image p) x ∙ first l image p v e h hc)

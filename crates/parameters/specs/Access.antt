@@ -1,13 +1,13 @@
 -- What the calls amount to that read and write bytes of one block, over any device: whether they
 -- are accepted is left to the laws. `at` is the first of the bytes in its class.
-use Rattle.std.specs.Prelude.{ℕ, ◌+◌, ◌/◌, ◌%◌, cond, List, [], ◌∷◌, ℤ}
+use Rattle.std.specs.Prelude.{ℕ, ◌+◌, ◌/◌, ◌%◌, List, [], ◌∷◌, ℤ}
 use Rattle.checksum.specs.Checksum.{checksum}
 use Rattle.flashrules.specs.Lookup.{block_size}
 use Rattle.flashrules.specs.declared.layout.Layout.{Layout}
 use Rattle.gaugerules.specs.State.{boot_open, control_flash, power_on}
 use Rattle.gaugerules.specs.Register.{data_flash_class, block_data, block_data_checksum, block_data_control}
 use Rattle.gaugerules.specs.Script.{Device, device, to_write, after_call, after_calls}
-use Rattle.parameterrules.specs.Commits.{lower_width, crosses_block, lower_bytes, upper_bytes, set_calls}
+use Rattle.parameterrules.specs.Commits.{lower_bytes, set_calls}
 use Rattle.parameterrules.specs.declared.parameter.Parameter.{Parameter}
 
 -- a gauge is powered on open, and 0 is written to 0x61
@@ -32,18 +32,9 @@ sent_at l d i at bs = commit_sent l (edited_at l (selected_at l d i at) at bs)
 
 -- ---- a parameter's bytes
 
--- a gauge just powered on has loaded the block that they begin in
-abbrev pub lower_selected : Layout → List ℕ → Parameter → Device
-lower_selected l image p = selected_at l (opened l image) p.class p.offset
-
--- those of a value for the lower block are sent
+-- those of a value for the lower block are sent, by a gauge just powered on
 abbrev pub first_commit : Layout → List ℕ → Parameter → ℤ → Device
 first_commit l image p v = sent_at l (opened l image) p.class p.offset (lower_bytes p v)
-
--- those for the upper one, where there are any
-abbrev pub second_commit : Layout → Device → Parameter → ℤ → Device
-second_commit l d p v =
-    cond (crosses_block p) (sent_at l d p.class (p.offset + lower_width p) (upper_bytes p v)) d
 
 -- all calls of a setting
 abbrev pub set_on_gauge : Layout → List ℕ → Parameter → ℤ → Device

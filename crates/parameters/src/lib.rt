@@ -7,55 +7,53 @@ mod block;
 mod row;
 
 ghost use Rattle.std.specs.Prelude.{◌≡◌};
+ghost use Rattle.flashrules.specs.Error.{number_of};
 ghost use Rattle.flashrules.specs.Outcome.{outcome};
+ghost use Rattle.parameterrules.specs.Answer.{value_answer};
 ghost use Rattle.parameterrules.specs.Parameter.{get, set};
 ghost use Rattle.parameterrules.specs.Commits.{set_lower};
 
 use crate::row::{store, store_lower, value_in};
+use flashrules::error::Error;
 use flashrules::layout::Layout;
-use parametercheck::error::{get_error, set_error};
+use parametercheck::error::{check_get, check_set};
 use parametercheck::valid::in_range;
-use parameterrules::parameter::{Parameter, ParameterValue};
+use parameterrules::parameter::{Parameter, Value};
 
-// The value of a parameter, and whether it is in range. Refused: 0, and not in range.
-pub fn get(layout: Layout, image: &[u8], parameter: Parameter) -> ParameterValue
-    ensures { result ≡ get layout image.now parameter }
+// The value of a parameter, and whether it is in range.
+#[tactic(auto, unfolding(parameterrules::specs::Parameter::get))]
+pub fn get(layout: Layout, image: &[u8], parameter: Parameter) -> Result<Value, Error>
+    ensures { value_answer result ≡ get layout image.now parameter }
 {
-    let error = get_error(layout, image.len(), parameter);
-    if error != 0 {
-        return ParameterValue {
-            error,
-            value: 0,
-            in_range: false,
-        };
-    }
-    let value = value_in(layout, image, parameter);
-    ParameterValue {
-        error: 0,
+    let row = check_get(layout, image.len(), parameter)?;
+    let value = value_in(layout, image, row);
+    Ok(Value {
         value,
         in_range: in_range(parameter, value),
-    }
+    })
 }
 
 // Sets a parameter to a value. Refused: the image stays as it was.
-pub fn set(layout: Layout, image: &mut [u8], parameter: Parameter, value: i64) -> u8
-    ensures { outcome result image.new ≡ set layout image.old parameter value }
+pub fn set(layout: Layout, image: &mut [u8], parameter: Parameter, value: i64) -> Result<(), Error>
+    ensures { outcome (number_of result) image.new ≡ set layout image.old parameter value }
 {
-    let error = set_error(layout, image.len(), parameter, value);
-    if error == 0 {
-        store(layout, image, parameter, value);
-    }
-    error
+    let row = check_set(layout, image.len(), parameter, value)?;
+    store(layout, image, row, value);
+    Ok(())
 }
 
 // Sets those of a parameter's bytes that lie in the block that it begins in: what a cut of power
 // finds between the two commits of a row that crosses the block's end. Refused as `set`.
-pub fn set_lower(layout: Layout, image: &mut [u8], parameter: Parameter, value: i64) -> u8
-    ensures { outcome result image.new ≡ set_lower layout image.old parameter value }
+// Stays: it differs from `set` in one call; a closure for that call would be no shorter.
+pub fn set_lower(
+    layout: Layout,
+    image: &mut [u8],
+    parameter: Parameter,
+    value: i64,
+) -> Result<(), Error>
+    ensures { outcome (number_of result) image.new ≡ set_lower layout image.old parameter value }
 {
-    let error = set_error(layout, image.len(), parameter, value);
-    if error == 0 {
-        store_lower(layout, image, parameter, value);
-    }
-    error
+    let row = check_set(layout, image.len(), parameter, value)?;
+    store_lower(layout, image, row, value);
+    Ok(())
 }

@@ -4,8 +4,8 @@
 #![tactic(auto)]
 
 use scripthost::files::run_files;
-use scriptrules::session::REPORT_REPLIES;
+use scriptrules::session::Report;
 
 fn main(rt: HostRuntime) {
-    run_files(&rt, REPORT_REPLIES);
+    run_files(&rt, Report::Replies);
 }

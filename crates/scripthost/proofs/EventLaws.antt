@@ -9,7 +9,7 @@ use Rattle.scriptrules.specs.declared.session.Session.{Session}
 use Rattle.flashrules.specs.Outcome.{outcome}
 use Rattle.scriptrules.specs.Run.{lend, run}
 use Rattle.scriptrules.specs.Host.{Event, arrives, runs, Host, host, handle, handle_all}
-use Rattle.scriptrules.specs.declared.answer.Progress.{Progress}
+use Rattle.scriptrules.specs.Answer.{RunAnswer}
 use Rattle.scripthost.specs.Held.{held, Longer, Turned, ByEvents, Passed}
 use Rattle.scripthost.proofs.HeldLaws.{held_length, held_drop}
 
@@ -41,16 +41,16 @@ module _ (l : Layout) (report : ℕ) where
 
 -- ---- one turn: what is held is run, s being what that left
 
-module _ (l : Layout) (report : ℕ) (before : Session) (image image' b out out' : List ℕ) (from to : ℕ) (s : Progress) (p : outcome s (lend image' out') ≡ run l report image before (held b from to) out) where
+module _ (l : Layout) (report : ℕ) (before : Session) (image image' b out out' : List ℕ) (from to : ℕ) (s : RunAnswer) (p : outcome s (lend image' out') ≡ run l report image before (held b from to) out) where
   pub turn_ran : from + s.next ≤ to → Turned l report out (runner before image) (held b from to) (runner s.session image') (held b (from + s.next) to)
   unfolding outcome
   turn_ran h = record { more = []; runner = rw (← p); text = rw (← p, append-nil) (held_drop b from to s.next h) }
 
   -- and then more is read
-  pub turn_read : (b' : List ℕ) (to' : ℕ) → s.next ≡ 0 → Longer (held b from to) (held b' 0 to')
-      → Turned l report out (runner before image) (held b from to) (runner s.session image') (held b' 0 to')
+  pub turn_read : (b' : List ℕ) (from' to' : ℕ) (s' : Session) → s.next ≡ 0 → from' ≡ 0 → s' ≡ s.session → Longer (held b from to) (held b' 0 to')
+      → Turned l report out (runner before image) (held b from to) (runner s' image') (held b' from' to')
   unfolding outcome
-  turn_read b' to' e m = record { more = m.more; runner = rw (← p); text = rw (← p, e) (sym m.whole) }
+  turn_read b' from' to' s' e f k m = rw (f, k) (record { more = m.more; runner = rw (← p); text = rw (← p, e) (sym m.whole) })
 
 pub turn_on : (l : Layout) (report : ℕ) (out x x' : List ℕ) (b₀ b b' : Runner) → ByEvents l report b₀ [] b x → Turned l report out b x b' x' → ByEvents l report b₀ [] b' x'
 turn_on l report out x x' b₀ b b' a t =
@@ -67,9 +67,5 @@ module _ (l : Layout) (report : ℕ) (image b : List ℕ) (s : Session) where
       → Passed l report (fresh_runner image₀) image (to - from)
   pass_end image₀ from to a h k = record { last = runner s image; text = held b from to; events = a; image = refl; size = held_length b from to h k }
 
-  -- where the last turn has just been taken; b₁ is the buffer before it
-  pub pass_last : (image₀ out x b₁ : List ℕ) (before : Runner) (from to : ℕ) → ByEvents l report (fresh_runner image₀) [] before x
-      → Turned l report out before x (runner s image) (held b from to)
-      → from ≤ to → to ≤ length b₁ → length b ≡ length b₁ → Passed l report (fresh_runner image₀) image (to - from)
-  pass_last image₀ out x b₁ before from to a t h k e =
-      pass_end image₀ from to (turn_on l report out x (held b from to) (fresh_runner image₀) before (runner s image) a t) h (rw e k)
+-- what proves `turns`
+pub ruleset all_turns = (pass_start, pass_end)

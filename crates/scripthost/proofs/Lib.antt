@@ -1,3 +1,4 @@
 pub mod CheckedLaws
 pub mod EventLaws
 pub mod HeldLaws
+pub mod FileLaws

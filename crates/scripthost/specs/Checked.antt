@@ -3,9 +3,8 @@
 -- that ended well after so many characters: a state that forgot some of them is none of so many.
 use Rattle.std.specs.Prelude.{◌≡◌, ℕ, ◌+◌, ◌%◌, ◌^◌, Bool, true, false, List, length}
 use Rattle.scriptrules.specs.Frame.{lines_of}
-use Rattle.scriptrules.specs.Parser.{start, feed, end_error}
+use Rattle.scriptrules.specs.Parser.{Parser, start, feed, end_error}
 use Rattle.scriptrules.specs.Session.{too_long, count_on}
-use Rattle.scriptrules.specs.declared.parser.Parser.{Parser}
 
 -- some text leads from one state of the parser to another, from one number of characters, modulo
 -- 2^64, to another, and from one number of lines to another

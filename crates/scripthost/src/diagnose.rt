@@ -7,65 +7,35 @@ use scriptparser::{feed, start};
 use scriptrules::parser::Parser;
 use std::io::{Read, Seek};
 
-// So many good lines went before, and whether there is more to be read.
-#[derive(Clone, Copy)]
-struct Counted {
-    state: Parser,
-    lines: u64,
-    more: bool,
-}
-
 // The good lines of a chunk are counted on, until a rule is broken.
-fn count_lines(state: Parser, lines: u64, chunk: &[u8]) -> Counted {
-    let mut after = state;
-    let mut n = lines;
-    let mut i = 0;
-    while i < chunk.len() {
-        let next = i + 1;
-        after = feed(after, &chunk[i..next]);
-        if !after.good {
-            return Counted {
-                state: after,
-                lines: n,
-                more: false,
-            };
+fn count_lines(state: Parser, lines: u64, chunk: &[u8]) -> (Parser, u64) {
+    let mut state = state;
+    let mut lines = lines;
+    for c in chunk {
+        state = feed(state, &[*c]);
+        if state.is_none() {
+            break;
         }
-        if chunk[i] == LINE_FEED {
-            n = std::num::wrapping_add_u64(n, 1);
+        if *c == LINE_FEED {
+            lines = lines.wrapping_add(1);
         }
-        i = next;
     }
-    Counted {
-        state: after,
-        lines: n,
-        more: 0 < i,
-    }
+    (state, lines)
 }
 
-fn count_some<R: Eprint + AllocGlobal, F: Read>(
-    rt: &R,
-    file: &mut F,
-    state: Parser,
-    lines: u64,
-    buffer: &mut [u8],
-) -> Counted {
-    let got = read_some(rt, file, b"script.hex", buffer);
-    let n = got.count;
-    count_lines(state, lines, &buffer[0..n])
-}
-
-// How many good lines come first. The turns are counted down, as in every loop over a file.
+// How many good lines come first. Nothing says that a file ends, so the loop has a number of turns
+// that no run uses up, as every loop over a file.
 fn good_lines<R: Eprint + AllocGlobal, F: Read>(rt: &R, file: &mut F, buffer: &mut [u8]) -> u64 {
-    let mut counted = count_some(rt, file, start(), 0, buffer);
-    let mut turns = u64::MAX;
-    while turns > 0 {
-        if !counted.more {
-            return counted.lines;
+    let mut state = start();
+    let mut lines = 0;
+    for _ in 0..u64::MAX {
+        let count = read_some(rt, file, b"script.hex", buffer).unwrap_or(0);
+        if count == 0 || state.is_none() {
+            break;
         }
-        counted = count_some(rt, file, counted.state, counted.lines, buffer);
-        turns -= 1;
+        (state, lines) = count_lines(state, lines, &buffer[..count]);
     }
-    counted.lines
+    lines
 }
 
 // The reason, as a line on standard error.

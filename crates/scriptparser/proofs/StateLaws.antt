@@ -1,69 +1,41 @@
 -- The state of the parser, as the code makes it.
-use Prim.Native.Nat.{ℕ, suc, ◌+◌, ◌*◌, ◌≤◌, ◌<◌}
-use mathlib.Core.Path.{◌≡◌}
-use mathlib.Core.Bool.{Bool, true, false}
-use mathlib.Core.List.{List}
-use native.Mathlib.Omega.{arith}
-use lib.ListN.{length, drop, get_or, drop_of_length-le}
-use lib.Seq.{drop-cons}
-use borrow.Author.Tests.{eq-eqb, ne_eqb, lt-ltb, le-ltb}
-use Rattle.flashrules.specs.Error.{malformed}
-use Rattle.flashrules.proofs.Picks.{pick_last}
-use Rattle.scriptrules.specs.Frame.{max_frame}
-use Rattle.scriptrules.specs.Parser.{state, start, broken, is_whole, kind_with, with_digit, feed_byte, feed, end_error, is_frame}
-use Rattle.scriptrules.specs.declared.parser.Parser.{Parser}
+use Rattle.std.proofs.Common.{◌≡◌, ℕ, true, cond, List, [], ◌∷◌, ◌+◌, ◌<◌, eqb, get_or, length, refl, sym, ◌∙◌, drop, true≢false}
+use Rattle.std.proofs.lemmas.List.{drop_more}
+use borrow.Author.Tests.{eqb-true}
+use Rattle.flashrules.proofs.Picks.{on_test}
+use Rattle.hextext.specs.Hex.{line_feed}
+use Rattle.scriptrules.specs.Parser.{Parser, state, broken, is_digit, is_whole, start, with_digit, with_character, feed_byte, feed}
 
-pub start_broken : (s : Parser) → s ≡ start → state false s.count s.kind ≡ broken
-start_broken s p = rw p
+-- a line feed is no digit
+pub digit_first : (count kind c : ℕ) → is_digit c ≡ true → with_digit count kind c ≡ with_character count kind c
+unfolding with_character is_digit
+digit_first count kind c p = on_test (eqb c line_feed) (λ e. let q = eqb-true c line_feed e in absurd (true≢false (sym (rw q at p)))) (λ e. rw (e, p))
 
--- ---- a digit more
+pub by_character : (count kind c : ℕ)
+    → with_character count kind c ≡ cond (eqb c line_feed) (cond (is_whole kind count) start broken)
+    (cond (is_digit c) (with_digit count kind c) broken)
+unfolding with_character
+by_character count kind c = refl
 
-module _ (count kind c : ℕ) where
-  pub digit_early : (k : ℕ) → count < 2 → k ≡ kind_with kind c → state true (count + 1) k ≡ with_digit count kind c
-  unfolding with_digit
-  digit_early k h e = rw (lt-ltb count (2 * max_frame) (omega arith), lt-ltb count 2 h, e)
+-- what proves `with_character`
+pub ruleset characters = (digit_first, by_character)
 
-  pub digit_late : count < 2 * max_frame → 2 ≤ count → state true (count + 1) kind ≡ with_digit count kind c
-  unfolding with_digit
-  digit_late h g = rw (lt-ltb count (2 * max_frame) h, le-ltb count 2 g)
+-- ---- the loop: what is left to parse leads on to the state
 
-  pub digit_many : (s : Parser) → 2 * max_frame ≤ count → s ≡ broken → s ≡ with_digit count kind c
-  unfolding with_digit
-  digit_many s h e = rw (le-ltb count (2 * max_frame) h) e
+-- what is broken stays broken
+pub broken_stays : (xs : List ℕ) → feed broken xs ≡ broken
+unfolding feed_byte
+broken_stays [] = refl
+broken_stays (x ∷ xs) = broken_stays xs
 
--- ---- the loop: `e` is its invariant
+pub feed_next : (count kind : ℕ) (xs : List ℕ) (i : ℕ) (r : Parser) → i < length xs → r ≡ with_character count kind (get_or xs i 0)
+    → feed r (drop (i + 1) xs) ≡ feed (state true count kind) (drop i xs)
+unfolding feed_byte
+feed_next count kind xs i r h e = rw (drop_more xs i 0 h, e)
 
-module _ (x : List ℕ) (s z : Parser) (i : ℕ) (e : feed s (drop i x) ≡ z) where
-  pub feed_more : (s' : Parser) → i < length x → s' ≡ feed_byte s (get_or x i 0) → feed s' (drop (i + 1) x) ≡ z
-  feed_more s' h p = let t : i + 1 ≡ suc i = omega arith in rw (p, t) (rw (drop-cons x i 0 h) at e)
+pub feed_stops : (count kind : ℕ) (xs : List ℕ) (i : ℕ) → i < length xs → broken ≡ with_character count kind (get_or xs i 0)
+    → broken ≡ feed (state true count kind) (drop i xs)
+feed_stops count kind xs i h e = sym (broken_stays (drop (i + 1) xs)) ∙ feed_next count kind xs i broken h e
 
-  pub feed_end : length x ≤ i → s ≡ z
-  feed_end h = rw (drop_of_length-le x h) at e
-
--- ---- the end of a script, and of a line
-
-module _ (s : Parser) (e : ℕ) where
-  pub end_of_lines : s.good ≡ true → s.count ≡ 0 → e ≡ 0 → e ≡ end_error s
-  unfolding end_error
-  end_of_lines h g p = rw (h, eq-eqb s.count 0 g) p
-
-  pub end_in_line : s.good ≡ true → (s.count ≡ 0 → ⊥) → e ≡ malformed → e ≡ end_error s
-  unfolding end_error
-  end_in_line h g p = rw (h, ne_eqb s.count 0 g) p
-
-  pub end_of_broken : s.good ≡ false → e ≡ malformed → e ≡ end_error s
-  unfolding end_error
-  end_of_broken h p = rw h p
-
-module _ (line : List ℕ) (s t : Parser) (p : s ≡ feed t line) (q : t ≡ start) where
-  pub line_counted : (r : Bool) → s.good ≡ true → s.count ≡ length line → r ≡ is_whole s.kind s.count → r ≡ is_frame line
-  unfolding is_frame
-  line_counted r h n e = rw (← q, ← p, h, eq-eqb s.count (length line) n) (pick_last r (is_whole s.kind s.count) e)
-
-  pub line_cut : s.good ≡ true → (s.count ≡ length line → ⊥) → false ≡ is_frame line
-  unfolding is_frame
-  line_cut h n = rw (← q, ← p, h, ne_eqb s.count (length line) n)
-
-  pub line_broken : s.good ≡ false → false ≡ is_frame line
-  unfolding is_frame
-  line_broken h = rw (← q, ← p, h)
+-- what proves `feed`
+pub ruleset feeds = (broken_stays, feed_next, feed_stops)

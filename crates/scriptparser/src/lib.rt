@@ -5,59 +5,40 @@
 pub mod lines;
 
 ghost use Rattle.std.specs.Prelude.{◌≡◌};
-ghost use Rattle.scriptrules.specs.Parser.{start, broken, is_digit, is_whole, kind_with, with_digit, with_character, feed_byte, feed, end_error, is_frame};
+ghost use Rattle.flashrules.specs.Error.{number_of};
+ghost use Rattle.scriptrules.specs.Parser.{parser, start, is_digit, is_whole, kind_with, with_digit, with_character, feed, end_error, is_frame};
 
-use flashrules::error::MALFORMED;
+use flashrules::error::Error;
 use hextext::{LINE_FEED, value};
-use scriptrules::parser::{MAX_FRAME, Parser, READ, SUPPLY, WRITE};
+use scriptrules::parser::{Line, MAX_FRAME, Parser, READ, SUPPLY, WRITE};
 
 // Before the first chunk.
 pub fn start() -> Parser
-    ensures { result ≡ start }
+    ensures { parser result ≡ start }
 {
-    Parser {
-        good: true,
+    Some(Line {
         count: 0,
         kind: READ,
-    }
+    })
 }
 
-fn broken() -> Parser
-    ensures { result ≡ broken }
-{
-    let mut state = start();
-    state.good = false;
-    state
-}
-
+#[tactic(auto, unfolding(scriptrules::specs::Parser::is_digit))]
 fn is_digit(c: u8) -> bool
     ensures { result ≡ is_digit c }
 {
-    if c < 65 {
-        if 48 <= c {
-            return c <= 57;
-        }
-        return false;
-    }
-    c <= 70
+    matches!(c, b'0'..=b'9' | b'A'..=b'F')
 }
 
 // Whether a frame of this kind may have so many digits.
+#[tactic(auto, unfolding(scriptrules::specs::Parser::is_whole))]
 fn is_whole(kind: u8, count: usize) -> bool
     ensures { result ≡ is_whole kind count }
 {
-    if kind == READ {
-        return count == 6;
+    match kind {
+        READ | SUPPLY => count == 6,
+        WRITE => 4 <= count && count % 2 == 0,
+        _ => false,
     }
-    if kind == SUPPLY {
-        return count == 6;
-    }
-    if kind == WRITE {
-        if 4 <= count {
-            return count % 2 == 0;
-        }
-    }
-    false
 }
 
 fn kind_with(kind: u8, c: u8) -> u8
@@ -66,85 +47,64 @@ fn kind_with(kind: u8, c: u8) -> u8
     kind % 16 * 16 + value(c)
 }
 
-fn with_digit(count: usize, kind: u8, c: u8) -> Parser
-    ensures { result ≡ with_digit count kind c }
+#[tactic(auto, unfolding(scriptrules::specs::Parser::with_digit))]
+fn with_digit(line: Line, c: u8) -> Parser
+    ensures { parser result ≡ with_digit line.count line.kind c }
 {
-    if count < 2 * MAX_FRAME {
-        if count < 2 {
-            return Parser {
-                good: true,
-                count: count + 1,
-                kind: kind_with(kind, c),
-            };
-        }
-        return Parser {
-            good: true,
-            count: count + 1,
-            kind,
-        };
+    let Line { count, kind } = line;
+    if 2 * MAX_FRAME <= count {
+        return None;
     }
-    broken()
+    Some(Line {
+        count: count + 1,
+        kind: if count < 2 { kind_with(kind, c) } else { kind },
+    })
 }
 
-fn with_character(count: usize, kind: u8, c: u8) -> Parser
-    ensures { result ≡ with_character count kind c }
+#[tactic(auto, using(crate::proofs::StateLaws::characters))]
+fn with_character(line: Line, c: u8) -> Parser
+    ensures { parser result ≡ with_character line.count line.kind c }
 {
-    if c == LINE_FEED {
-        if is_whole(kind, count) {
-            return start();
-        }
-        return broken();
-    }
     if is_digit(c) {
-        return with_digit(count, kind, c);
+        with_digit(line, c)
+    } else if c == LINE_FEED && is_whole(line.kind, line.count) {
+        start()
+    } else {
+        None
     }
-    broken()
-}
-
-fn feed_byte(state: Parser, c: u8) -> Parser
-    ensures { result ≡ feed_byte state c }
-{
-    if state.good {
-        return with_character(state.count, state.kind, c);
-    }
-    broken()
 }
 
 // The state after another chunk.
+#[tactic(auto, using(crate::proofs::StateLaws::feeds))]
 pub fn feed(state: Parser, chunk: &[u8]) -> Parser
-    ensures { result ≡ feed state chunk.now }
+    ensures { parser result ≡ feed (parser state) chunk.now }
 {
-    let mut after = state;
-    let mut i = 0;
-    while i < chunk.len() {
-        after = feed_byte(after, chunk[i]);
-        i += 1;
+    let mut line = state?;
+    for c in chunk {
+        line = with_character(line, *c)?;
     }
-    after
+    Some(line)
 }
 
-// 0 where all that was fed is a script, 10 where it is not.
-pub fn end(state: Parser) -> u8
-    ensures { result ≡ end_error state }
+// Whether all that was fed is a script.
+#[tactic(auto, unfolding(scriptrules::specs::Parser::end_error))]
+pub fn end(state: Parser) -> Result<(), Error>
+    ensures { number_of result ≡ end_error (parser state) }
 {
-    if state.good {
-        if state.count == 0 {
-            return 0;
-        }
+    match state {
+        Some(Line { count: 0, .. }) => Ok(()),
+        _ => Err(Error::Malformed),
     }
-    MALFORMED
 }
 
 // Whether a line, without its line feed, is a frame. A line feed in it would begin the count anew,
 // so every byte must be counted.
+#[tactic(auto, unfolding(scriptrules::specs::Parser::is_frame))]
 pub fn is_frame(line: &[u8]) -> bool
     ensures { result ≡ is_frame line.now }
 {
-    let after = feed(start(), line);
-    if after.good {
-        if after.count == line.len() {
-            return is_whole(after.kind, after.count);
-        }
+    match feed(start(), line) {
+        Some(after) => after.count == line.len() && is_whole(after.kind, after.count),
+        None => false,
     }
-    false
 }

@@ -15,7 +15,7 @@ use Rattle.flashrules.specs.Outcome.{Outcome}
 use Rattle.scriptrules.specs.Run.{Lent, run}
 use Rattle.scriptrules.specs.Host.{Event, arrives, runs, host, handle_all, arrived}
 use Rattle.scriptrules.specs.Laws.{Ran, HostPrints}
-use Rattle.scriptrules.specs.declared.answer.Progress.{Progress}
+use Rattle.scriptrules.specs.Answer.{RunAnswer}
 use Rattle.scriptrules.proofs.SessionLaws.{outputs_append, output_whole}
 use Rattle.scriptrules.proofs.ScriptLaws.{frames_script}
 use Rattle.scriptrules.proofs.RunLaws.{run_frames}
@@ -25,7 +25,7 @@ unfolding parse_script
 parse_frames y e = rw (eq-eqb _ _ e)
 
 -- what one call printed and what is still to be run, of a text held and one to come
-run_prints : (l : Layout) (report : ℕ) (b : Runner) (held more buffer : List ℕ) (s : Outcome Progress Lent) → Ran l report b held buffer s
+run_prints : (l : Layout) (report : ℕ) (b : Runner) (held more buffer : List ℕ) (s : Outcome RunAnswer Lent) → Ran l report b held buffer s
     → let left = frames_of (lines_of (drop s.answer.next held ++ more)) in
     take s.answer.length s.lent.buffer ++ outputs l report (runner s.answer.session s.lent.image) left ≡ outputs l report b (frames_of (lines_of (held ++ more)))
 run_prints l report b held more buffer s w =

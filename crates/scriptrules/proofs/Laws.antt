@@ -4,7 +4,7 @@ pub use Rattle.scriptrules.proofs.ParserLaws.{feed_chunks}
 pub use Rattle.scriptrules.proofs.ScriptLaws.{accepted_line, accepted_script}
 pub use Rattle.scriptrules.proofs.LineLaws.{count_chunks, count_tells}
 pub use Rattle.scriptrules.proofs.ReplyLaws.{nothing_printed}
-pub use Rattle.scriptrules.proofs.SessionLaws.{output_length, output_whole}
+pub use Rattle.scriptrules.proofs.SessionLaws.{report_taken, output_length, output_whole}
 pub use Rattle.scriptrules.proofs.AnswerLaws.{one_by_one_lem}
 pub use Rattle.scriptrules.proofs.RunLaws.{run_frames}
 pub use Rattle.scriptrules.proofs.HostLaws.{host_prints}

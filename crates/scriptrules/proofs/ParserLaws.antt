@@ -15,7 +15,7 @@ use Rattle.flashrules.proofs.Picks.{and_first, and_rest, on_test, on_cond}
 use Rattle.scriptrules.specs.Frame.{read_kind, write_kind, supply_kind, max_frame}
 use Rattle.scriptrules.specs.Parser.{state, start, broken, is_digit, is_whole, kind_with, with_digit, with_character, feed_byte, feed, end_error}
 use Rattle.scriptrules.specs.Laws.{FeedChunks}
-use Rattle.scriptrules.specs.declared.parser.Parser.{Parser}
+use Rattle.scriptrules.specs.Parser.{Parser}
 use Rattle.scriptrules.proofs.FrameLaws.{digit_other, Digits}
 
 -- ---- chunks

@@ -21,7 +21,7 @@ use Rattle.scriptrules.specs.Session.{Runner, runner, frame_text, after_line, ou
 use Rattle.flashrules.specs.Outcome.{Outcome, outcome}
 use Rattle.scriptrules.specs.Run.{Lent, lend, run_frame, progress, run_lines, run}
 use Rattle.scriptrules.specs.Laws.{Sendable, AllSendable, IsLine, Ran, RunFrames}
-use Rattle.scriptrules.specs.declared.answer.Progress.{Progress}
+use Rattle.scriptrules.specs.Answer.{RunAnswer}
 use Rattle.scriptrules.proofs.ScriptLaws.{accepted_line}
 use Rattle.scriptrules.proofs.SessionLaws.{output_length}
 use Rattle.scriptrules.proofs.WholeLines.{lines_line, lines_behind}
@@ -38,7 +38,7 @@ record Stop (rest : List ℕ) (room e n : ℕ) : Type 0 where
   full : e ≡ short_buffer → room < n + max_reply
 
 -- what is claimed of a run over a text that begins at `next`, with n characters of output before
-record Went (l : Layout) (report : ℕ) (b : Runner) (x buffer : List ℕ) (next n : ℕ) (s : Outcome Progress Lent) : Type 0 where
+record Went (l : Layout) (report : ℕ) (b : Runner) (x buffer : List ℕ) (next n : ℕ) (s : Outcome RunAnswer Lent) : Type 0 where
   frames : List Frame
   rest : List ℕ
   sendable : AllSendable frames
@@ -69,7 +69,7 @@ module _ (l : Layout) (report : ℕ) (b : Runner) where
   }
 
   -- it runs one frame, and goes on behind its line
-  went_more : (f : Frame) (line x y buffer : List ℕ) (next n : ℕ) (s : Outcome Progress Lent) → IsLine f line → x ≡ line ++ (line_feed ∷ y)
+  went_more : (f : Frame) (line x y buffer : List ℕ) (next n : ℕ) (s : Outcome RunAnswer Lent) → IsLine f line → x ≡ line ++ (line_feed ∷ y)
       → let r = frame_text l report b f in
       Went l report (after_line l report b f) y (sets buffer n r) (next + length line + 1) (n + length r) s → Went l report b x buffer next n s
   went_more f line x y buffer next n s p q w = record {
@@ -85,7 +85,7 @@ module _ (l : Layout) (report : ℕ) (b : Runner) where
     stop = rw length-sets at w.stop;
   }
 
-  went_ran : (x buffer : List ℕ) (s : Outcome Progress Lent) → Went l report b x buffer 0 0 s → Ran l report b x buffer s
+  went_ran : (x buffer : List ℕ) (s : Outcome RunAnswer Lent) → Went l report b x buffer 0 0 s → Ran l report b x buffer s
   went_ran x buffer s w =
       let e : length (serialize_script w.frames) ≡ s.answer.next = omega (arith, w.end) in
       let t = ap (take s.answer.next) w.text ∙ take_at (serialize_script w.frames) w.rest s.answer.next e in

@@ -21,7 +21,7 @@ use Rattle.causerules.specs.Notes.{blank, next_line, max_lines, note_all, track,
 use Rattle.causerules.specs.Laws.{Remembers}
 use Rattle.causerules.specs.declared.reason.Reason.{Reason}
 use Rattle.causerules.specs.declared.notes.Notes.{Notes}
-use Rattle.causerules.specs.declared.notes.Tracked.{Tracked}
+use Rattle.causerules.specs.Answer.{TrackAnswer}
 use Rattle.causerules.proofs.Laws.{notes_remember, supply_remembered}
 use Rattle.causerules.proofs.HistoryLaws.{notes_line}
 use Rattle.causerules.proofs.SupplyLaws.{supply_itself}
@@ -31,7 +31,7 @@ use Rattle.scriptrules.specs.Replay.{replay}
 use Rattle.scriptrules.specs.Why.{frame_steps, explanation, explanations, why}
 use Rattle.scriptrules.specs.Session.{report_causes, Runner, fresh_runner, device_of, track_frame, track_supply_frame, noted_text}
 use Rattle.scriptrules.specs.Session.{frame_text, after_line, after_replied, outputs, after_lines}
-use Rattle.scriptrules.specs.Laws.{OutputLength, OutputWhole}
+use Rattle.scriptrules.specs.Laws.{ReportTaken, OutputLength, OutputWhole}
 use Rattle.scriptrules.proofs.ReplyLaws.{reply_length}
 
 -- ---- one frame
@@ -43,7 +43,7 @@ cause_length e g line =
     on_test (eqb e 0) (λ p. rw p (omega arith))
     (λ p. rw p (on_test (eqb e wrong_checksum) (λ q. rw q (omega arith)) (λ q. rw q (omega arith))))
 
-pub tracked_length : (t : Tracked) → length (tracked_text t) ≤ max_reply
+pub tracked_length : (t : TrackAnswer) → length (tracked_text t) ≤ max_reply
 unfolding tracked_text
 tracked_length t = cause_length _ _ _
 
@@ -151,3 +151,6 @@ output_whole report x y l bytes fs p q t =
     let few = ltb-false max_lines (length fs) (rw e at t) in
     rw (e, p, q, le-ltb max_lines (length fs) few) (reports_causes l report (fresh_runner bytes) [] fs e (blank_remembers) (omega arith)))
     (λ e. rw (e, p, q) (reports_replies l report (fresh_runner bytes) fs e))
+
+pub report_taken : ReportTaken
+report_taken report x y = on_test (eqb report report_causes) (λ p. rw p) (λ p. rw p)

@@ -18,12 +18,18 @@ use Rattle.scriptrules.specs.Frame.{Frame, frame_bytes, max_frame, line_of, seri
 use Rattle.scriptrules.specs.Parser.{start, feed, end_error, is_frame, script, parse_script}
 use Rattle.scriptrules.specs.Reply.{call_of, max_reply, after_frame, replies, after_frames}
 use Rattle.scriptrules.specs.Replay.{powered_on, replay}
-use Rattle.scriptrules.specs.Session.{output, too_long, count_on, Runner, runner, fresh_runner, frame_text, outputs, after_lines}
+use Rattle.scriptrules.specs.Session.{report_number, report_of, output, too_long, count_on, Runner, runner, fresh_runner, frame_text, outputs, after_lines}
 use Rattle.flashrules.specs.Outcome.{Outcome}
 use Rattle.scriptrules.specs.Run.{Lent, run_line, run}
 use Rattle.scriptrules.specs.Host.{Event, host, handle_all, arrived}
-use Rattle.scriptrules.specs.declared.parser.Parser.{Parser}
-use Rattle.scriptrules.specs.declared.answer.Progress.{Progress}
+use Rattle.scriptrules.specs.Parser.{Parser}
+use Rattle.scriptrules.specs.Answer.{RunAnswer}
+
+-- ---- reports
+
+-- a number and the report that it is taken as are answered alike
+abbrev pub ReportTaken : Type 0
+ReportTaken = (report : ℕ) (x y : List ℕ) → output (report_number (report_of report)) x y ≡ output report x y
 
 -- ---- which texts are scripts
 
@@ -107,7 +113,7 @@ OneByOne =
 
 -- ---- what `run` did: s is what it left, of a session with its image, a text and a buffer
 
-pub record Ran (l : Layout) (report : ℕ) (b : Runner) (x buffer : List ℕ) (s : Outcome Progress Lent) : Type 0 where
+pub record Ran (l : Layout) (report : ℕ) (b : Runner) (x buffer : List ℕ) (s : Outcome RunAnswer Lent) : Type 0 where
   -- it ran these frames, which the text begins with
   pub frames : List Frame
   pub text : IsScript frames (take s.answer.next x)

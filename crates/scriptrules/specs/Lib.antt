@@ -3,6 +3,8 @@ pub mod Parser
 pub mod Reply
 pub mod Replay
 pub mod Why
+pub mod Answer
+pub mod Given
 pub mod Session
 pub mod Run
 pub mod Host

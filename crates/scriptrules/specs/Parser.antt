@@ -1,15 +1,20 @@
 -- Which texts are scripts: parsed character by character, by a state that goes in and comes back,
 -- so that a script of any length can be parsed in chunks. specs/Laws.antt says which texts these
 -- are, in terms of specs/Frame.antt alone (`IsScript`).
-use Rattle.std.specs.Prelude.{ℕ, ◌+◌, ◌*◌, ◌%◌, Bool, true, false, cond, List, [], ◌∷◌, eqb, leb, ltb, length}
+use Rattle.std.specs.Prelude.{ℕ, ◌+◌, ◌*◌, ◌%◌, Bool, true, false, cond, List, [], ◌∷◌, eqb, leb, ltb, length, Option, Some, None}
 use Rattle.hextext.specs.Hex.{value, line_feed}
 use Rattle.flashrules.specs.Error.{malformed}
 use Rattle.flashrules.specs.Choice.{and}
 use Rattle.scriptrules.specs.Frame.{Frame, read_kind, write_kind, supply_kind, max_frame, lines_of, frames_of}
-use Rattle.scriptrules.specs.declared.parser.Parser.{Parser}
+use Rattle.scriptrules.specs.declared.parser.Line.{Line}
 
 -- `good`: no rule is broken yet. Of the line that is not ended yet: how many digits it has, and its
 -- kind, the byte of the first two
+pub record Parser : Type 0 where
+  pub good : Bool
+  pub count : ℕ
+  pub kind : ℕ
+
 abbrev pub state : Bool → ℕ → ℕ → Parser
 state good count kind = record { good = good; count = count; kind = kind }
 
@@ -18,6 +23,11 @@ start = state true 0 0
 
 abbrev pub broken : Parser
 broken = state false 0 0
+
+-- a parser as the code holds it: none where a rule is broken
+abbrev pub parser : Option Line → Parser
+parser (Some s) = state true s.count s.kind
+parser None = broken
 
 -- 01: "Two upper-case digits a byte": 0 to 9, A to F
 unfoldable pub is_digit : ℕ → Bool

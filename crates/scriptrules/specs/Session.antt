@@ -8,11 +8,12 @@ use Rattle.gaugerules.specs.Script.{Device, device}
 use Rattle.gaugerules.specs.declared.state.Gauge.{Gauge}
 use Rattle.causerules.specs.Notes.{blank, next_line, max_lines, track, track_supply, tracked_text}
 use Rattle.causerules.specs.declared.notes.Notes.{Notes}
-use Rattle.causerules.specs.declared.notes.Tracked.{Tracked}
+use Rattle.causerules.specs.Answer.{TrackAnswer}
 use Rattle.scriptrules.specs.Frame.{Frame, write_frame, read_frame, supply_frame}
 use Rattle.scriptrules.specs.Reply.{reply_text, after_frame}
 use Rattle.scriptrules.specs.Replay.{replay}
 use Rattle.scriptrules.specs.Why.{why}
+use Rattle.scriptrules.specs.declared.session.Report.{Report}
 use Rattle.scriptrules.specs.declared.session.Session.{Session}
 
 -- ---- reports
@@ -27,6 +28,14 @@ report_causes = 1
 module _ {A : Type 0} where
   abbrev pub by_report : ℕ → A → A → A
   by_report report causes replies = cond (eqb report report_causes) causes replies
+
+-- the two as the values of one type, and that of any number
+abbrev pub report_number : Report → ℕ
+report_number Report.Replies = report_replies
+report_number Report.Causes = report_causes
+
+abbrev pub report_of : ℕ → Report
+report_of report = by_report report Report.Causes Report.Replies
 
 -- what is to be printed of an image file's text and a script's text
 abbrev pub output : ℕ → List ℕ → List ℕ → List ℕ
@@ -70,10 +79,10 @@ device_of b = device b.session.gauge b.image
 
 -- ---- one frame, noted as the next line
 
-unfoldable pub track_frame : Layout → Runner → ℕ → List ℕ → Outcome Tracked (List ℕ)
+unfoldable pub track_frame : Layout → Runner → ℕ → List ℕ → Outcome TrackAnswer (List ℕ)
 track_frame l b r bytes = track l b.image b.session.gauge (next_line b.session.notes) r bytes
 
-unfoldable pub track_supply_frame : Layout → Runner → ℕ → Tracked
+unfoldable pub track_supply_frame : Layout → Runner → ℕ → TrackAnswer
 track_supply_frame l b millivolts =
     track_supply l (length b.image) b.session.gauge (next_line b.session.notes) millivolts
 

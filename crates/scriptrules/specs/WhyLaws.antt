@@ -12,7 +12,7 @@ use Rattle.gaugerules.specs.Write.{write}
 use Rattle.gaugerules.specs.Supply.{set_supply}
 use Rattle.gaugerules.specs.Script.{Device}
 use Rattle.gaugerules.specs.declared.state.Gauge.{Gauge}
-use Rattle.gaugerules.specs.declared.answer.Written.{Written}
+use Rattle.gaugerules.specs.Answer.{WriteAnswer}
 use Rattle.causerules.specs.History.{Step, write_steps}
 use Rattle.causerules.specs.Cause.{reason_of, cause, four_bytes}
 use Rattle.causerules.specs.Laws.{holds_for, gave_for, Since}
@@ -64,7 +64,7 @@ ExplainedSupply =
     ≡ cond (leb millivolts max_supply) [] (hex_line (invalid_argument ∷ four_bytes line))
 
 -- a write that comes after these frames, powered on sealed: its answer
-abbrev pub answer_after : Layout → List ℕ → List Frame → ℕ → List ℕ → Written
+abbrev pub answer_after : Layout → List ℕ → List Frame → ℕ → List ℕ → WriteAnswer
 answer_after l image fs r bytes =
     let d = after_frames l (powered_on image) fs in (write l d.image d.gauge r bytes).answer
 

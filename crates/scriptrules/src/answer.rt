@@ -1,26 +1,29 @@
-// What a call answers. An error is document 01's number, 0 where there is none.
+// What a call that runs lines answers.
+ghost use Rattle.std.specs.Prelude.{◌≤◌};
+ghost use Rattle.scriptrules.specs.Reply.{max_reply};
+
 use crate::session::Session;
+use flashrules::error::Error;
 use gaugerules::register::REGISTERS;
 
 // The longest reply: 00, 128 bytes and a line feed.
 pub const MAX_REPLY: usize = 2 * (1 + REGISTERS) + 1;
 
-// After one line: the session, and how long is what it put out, with its line feed; 0 where the
-// line is refused.
-#[repr(C)]
+// After a line that was run: the session, and how long is what it put out, with its line feed. A
+// refused line leaves the session as it was, so it answers the refusal alone. No line puts out more
+// than the longest reply.
 #[derive(Clone, Copy)]
 pub struct Answered {
-    pub error: u8,
     pub session: Session,
     pub length: usize,
+    ghost short: { length ≤ max_reply },
 }
 
-// After the lines of a text: the session, where the first line begins that was not run, and how
-// many bytes of the buffer are output.
-#[repr(C)]
+// After the lines of a text: why the first line that was not run is refused, if there is one, the
+// session, where that line begins, and how many bytes of the buffer are output.
 #[derive(Clone, Copy)]
 pub struct Progress {
-    pub error: u8,
+    pub error: Option<Error>,
     pub session: Session,
     pub next: usize,
     pub length: usize,

@@ -5,5 +5,6 @@
 #![tactic(auto)]
 
 pub mod answer;
+pub mod frame;
 pub mod parser;
 pub mod session;

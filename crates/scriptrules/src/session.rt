@@ -1,11 +1,28 @@
-// Reports: what a script puts out, a reply to each line, or a line for each refused write and
-// supply. Any other number is taken as replies.
+// A session, and what a script puts out: a reply to each line, or a line for each refused write and
+// supply.
+ghost use Rattle.std.specs.Prelude.{◌≡◌};
+ghost use Rattle.scriptrules.specs.Session.{report_of};
+
 use causerules::notes::Notes;
 use gaugerules::state::Gauge;
 
-pub const REPORT_REPLIES: u8 = 0;
+#[derive(Clone, Copy, Debug, PartialEq, Eq)]
+pub enum Report {
+    Replies,
+    Causes,
+}
 
-pub const REPORT_CAUSES: u8 = 1;
+// Of its number: any other than that of causes is taken as replies.
+impl From<u8> for Report {
+    ghost from_gives = { λ n r. r ≡ report_of n };
+
+    fn from(number: u8) -> Report {
+        match number {
+            1 => Report::Causes,
+            _ => Report::Replies,
+        }
+    }
+}
 
 // What is carried from line to line of a script, by value. Replies leave the notes alone.
 #[repr(C)]

@@ -9,14 +9,9 @@ use lib.ListN.{length, take, drop, get_or, replicate, length-replicate}
 use lib.Seq.{sets, sets-eq, take_at}
 use borrow.Author.Tests.{eq-eqb, ne_eqb}
 use Rattle.hextext.specs.Hex.{unhex}
-use Rattle.flashrules.specs.declared.layout.Layout.{Layout}
 use Rattle.scriptrules.specs.Frame.{write_frame, read_frame, supply_frame, read_kind, supply_kind, max_frame, frame_of}
 use Rattle.gaugerules.specs.Word.{word}
 use Rattle.scriptrules.specs.Parser.{is_frame}
-use Rattle.flashrules.specs.Outcome.{Outcome}
-use Rattle.scriptrules.specs.Session.{Runner}
-use Rattle.scriptrules.specs.Run.{Lent, run_frame}
-use Rattle.scriptrules.specs.declared.answer.Answered.{Answered}
 use Rattle.scriptrules.proofs.ScriptLaws.{frame_least, frame_most, frame_even}
 
 -- ---- bytes in front of zeros
@@ -67,20 +62,20 @@ module _ (line : List ℕ) (e : is_frame line ≡ true) where
     get : (i : ℕ) → get_or frame i 0 ≡ get_or (unhex line) i 0
     get i = rw decoded (front_get (unhex line) (max_frame - length (unhex line)) i)
 
-    module _ (l : Layout) (report : ℕ) (b : Runner) (buffer : List ℕ) (at : ℕ) (z : Outcome Answered Lent) where
-      pub decoded_read : get_or frame 0 0 ≡ read_kind → z ≡ run_frame l report b (read_frame (get_or frame 1 0) (get_or frame 2 0)) buffer at
-          → z ≡ run_frame l report b (frame_of line) buffer at
-      decoded_read k q = q ∙ rw (get 1, get 2, eq-eqb (get_or (unhex line) 0 0) read_kind (sym (get 0) ∙ k))
+    pub decoded_read : get_or frame 0 0 ≡ read_kind → read_frame (get_or frame 1 0) (get_or frame 2 0) ≡ frame_of line
+    decoded_read k = rw (get 1, get 2, eq-eqb (get_or (unhex line) 0 0) read_kind (sym (get 0) ∙ k))
 
-      pub decoded_supply : (m : ℕ) → get_or frame 0 0 ≡ supply_kind → m ≡ word (get_or frame 2 0) (get_or frame 1 0)
-          → z ≡ run_frame l report b (supply_frame m) buffer at → z ≡ run_frame l report b (frame_of line) buffer at
-      decoded_supply m k e q =
-          let is : get_or (unhex line) 0 0 ≡ supply_kind = sym (get 0) ∙ k in
-          q ∙ rw (e, get 1, get 2, is)
+    pub decoded_supply : (m : ℕ) → get_or frame 0 0 ≡ supply_kind → m ≡ word (get_or frame 2 0) (get_or frame 1 0) → supply_frame m ≡ frame_of line
+    decoded_supply m k e =
+        let is : get_or (unhex line) 0 0 ≡ supply_kind = sym (get 0) ∙ k in
+        rw (e, get 1, get 2, is)
 
-      pub decoded_write : (n : ℕ) → (get_or frame 0 0 ≡ read_kind → ⊥) → (get_or frame 0 0 ≡ supply_kind → ⊥) → n ≡ length (unhex line)
-          → z ≡ run_frame l report b (write_frame (get_or frame 1 0) (take (n - 2) (drop 2 frame))) buffer at → z ≡ run_frame l report b (frame_of line) buffer at
-      decoded_write n k j m q =
-          let rest : take (n - 2) (drop 2 frame) ≡ drop 2 (unhex line)
-          = rw (m, decoded) (front_rest (unhex line) (zeros (max_frame - length (unhex line))) 2 (omega (arith, half_bytes, half_least))) in
-          q ∙ rw (rest, get 1, ne_eqb (get_or (unhex line) 0 0) read_kind (λ u. k (get 0 ∙ u)), ne_eqb (get_or (unhex line) 0 0) supply_kind (λ u. j (get 0 ∙ u)))
+    pub decoded_write : (get_or frame 0 0 ≡ read_kind → ⊥) → (get_or frame 0 0 ≡ supply_kind → ⊥)
+        → write_frame (get_or frame 1 0) (take (length line / 2 - 2) (drop 2 frame)) ≡ frame_of line
+    decoded_write k j =
+        let rest : take (length line / 2 - 2) (drop 2 frame) ≡ drop 2 (unhex line)
+        = rw (half_bytes, decoded) (front_rest (unhex line) (zeros (max_frame - length (unhex line))) 2 (omega (arith, half_bytes, half_least))) in
+        rw (rest, get 1, ne_eqb (get_or (unhex line) 0 0) read_kind (λ u. k (get 0 ∙ u)), ne_eqb (get_or (unhex line) 0 0) supply_kind (λ u. j (get 0 ∙ u)))
+
+-- what proves `frame_in`
+pub ruleset decodes = (half_least, half_most, decoded_read, decoded_supply, decoded_write)

@@ -3,7 +3,6 @@ use Prim.Native.Nat.{ℕ, suc, ◌+◌, ◌-◌, ◌≤◌, ◌<◌}
 use mathlib.Core.Path.{◌≡◌, refl, sym, ◌∙◌}
 use mathlib.Core.Bool.{Bool, true, false}
 use mathlib.Core.List.{List, [], ◌∷◌, ◌++◌, append_assoc, append-nil}
-use native.Mathlib.Nat.{add-sub_cancel_left}
 use native.Mathlib.Omega.{arith}
 use lib.Dec.{eqb}
 use lib.ListN.{length, take, drop, length-take, length-drop, drop_of_length-le}
@@ -11,7 +10,11 @@ use lib.Seq.{drop-drop}
 use borrow.Author.Tests.{ne_eqb, lt-ltb, le-ltb, ltb-false, not-false}
 use Rattle.std.specs.Prelude.{slice_range}
 use Rattle.hextext.specs.Scan.{index_of}
-use Rattle.flashrules.specs.Error.{malformed, short_buffer}
+use Rattle.std.specs.Prelude.{Result, Ok, Err, None}
+use Rattle.flashrules.specs.declared.error.Error.{Error}
+use Rattle.flashrules.proofs.ErrorLaws.{number_some, check_passed, check_number}
+use Rattle.scriptrules.specs.Answer.{LineAnswer, RunAnswer, line_answer, run_answer}
+use Rattle.flashrules.specs.Error.{number, number_or_none, number_of, malformed, short_buffer}
 use Rattle.flashrules.specs.Refusal.{NoneHolds}
 use Rattle.flashrules.specs.Outcome.{Outcome, outcome}
 use Rattle.flashrules.specs.declared.layout.Layout.{Layout}
@@ -31,10 +34,6 @@ use Rattle.scriptrules.specs.declared.answer.Progress.{Progress}
 -- ---- why a line is refused
 
 module _ (line : List ℕ) (n at : ℕ) (k : Bool) (p : k ≡ is_frame line) where
-  pub refused_full : k ≡ true → n ≤ at → short_buffer ≡ line_error line (n - at)
-  unfolding line_error
-  refused_full t h = rw (← p, t, lt-ltb (n - at) max_reply (omega arith))
-
   pub refused_short : k ≡ true → n - at < max_reply → short_buffer ≡ line_error line (n - at)
   unfolding line_error
   refused_short t h = rw (← p, t, lt-ltb (n - at) max_reply h)
@@ -48,12 +47,12 @@ module _ (line : List ℕ) (n at : ℕ) (k : Bool) (p : k ≡ is_frame line) whe
   refused_line t = rw (← p, t)
 
 -- what proves `line_error`
-pub ruleset line_errors = (refused_full, refused_short, not_refused, refused_line)
+pub ruleset line_errors = (refused_short, not_refused, refused_line)
 
-module _ (line : List ℕ) (room e : ℕ) (p : e ≡ line_error line room) (q : e ≡ 0) where
+module _ (line : List ℕ) (room : ℕ) (r : Result Unit Error) (p : number_of r ≡ line_error line room) (q : r ≡ Ok tt) where
   passed : NoneHolds (line_tests line room)
   unfolding line_error
-  passed = (no_error (line_tests line room) (omega arith, (omega arith, tt))).0 (sym p ∙ q)
+  passed = (no_error (line_tests line room) (omega arith, (omega arith, tt))).0 (check_passed r _ p tt q)
 
   pub line_runs : is_frame line ≡ true
   line_runs = not-false (is_frame line) passed.0
@@ -66,19 +65,15 @@ module _ (line : List ℕ) (room e : ℕ) (p : e ≡ line_error line room) (q : 
 
 -- ---- one line
 
-module _ (l : Layout) (report : ℕ) (image : List ℕ) (s : Session) (line buffer : List ℕ) (at e : ℕ) (p : e ≡ line_error line (length buffer - at)) where
-  pub answers : (z : Outcome Answered Lent) → e ≡ 0 → z ≡ run_frame l report (runner s image) (frame_of line) buffer at → z ≡ run_line l report image s line buffer at
+module _ (l : Layout) (report : ℕ) (image : List ℕ) (s : Session) (line buffer : List ℕ) (at : ℕ) (r : Result Unit Error)
+    (p : number_of r ≡ line_error line (length buffer - at)) where
+  pub answers : (z : Outcome LineAnswer Lent) → r ≡ Ok tt → z ≡ run_frame l report (runner s image) (frame_of line) buffer at → z ≡ run_line l report image s line buffer at
   unfolding run_line
-  answers z q r = r ∙ rw (← p, q)
+  answers z q x = x ∙ rw (check_passed r _ p tt q)
 
-  pub answers_not : (e ≡ 0 → ⊥) → outcome (answered e s 0) (lend image buffer) ≡ run_line l report image s line buffer at
+  pub answers_not : (e : Error) → r ≡ Err e → outcome (answered (number e) s 0) (lend image buffer) ≡ run_line l report image s line buffer at
   unfolding run_line
-  answers_not q = rw (← p, ne_eqb e 0 q)
-
--- the same behind other replies
-pub answers_behind : (z : Outcome Answered Lent) (image buffer : List ℕ) (a : Answered) (used : ℕ) → outcome a (lend image buffer) ≡ z
-    → outcome (answered a.error a.session (used + a.length - used)) (lend image buffer) ≡ z
-answers_behind z image buffer a used p = rw add-sub_cancel_left p
+  answers_not e q = rw (check_number r _ p e q, ne_eqb (number e) 0 (λ y. omega (arith, number_some e)))
 
 -- ---- the first line of a text, by its line feed
 
@@ -103,7 +98,7 @@ pub run_start : (l : Layout) (report : ℕ) (text image buffer : List ℕ) (s : 
 unfolding run
 run_start l report text image buffer s = refl
 
-module _ (l : Layout) (report : ℕ) (text image buffer : List ℕ) (s : Session) (from out : ℕ) (z : Outcome Progress Lent) (inv : run_lines l report image s (lines_of (drop from text)) buffer from out ≡ z) where
+module _ (l : Layout) (report : ℕ) (text image buffer : List ℕ) (s : Session) (from out : ℕ) (z : Outcome RunAnswer Lent) (inv : run_lines l report image s (lines_of (drop from text)) buffer from out ≡ z) where
   -- no line is left
   pub run_done : length text ≤ from → outcome (progress 0 s from out) (lend image buffer) ≡ z
   run_done h = rw (drop_of_length-le text h) at inv
@@ -112,8 +107,11 @@ module _ (l : Layout) (report : ℕ) (text image buffer : List ℕ) (s : Session
     gap : index_of line_feed (drop from text) ≡ end - from
     gap = omega (arith, line_end text from end p)
 
-    pub run_end : from ≤ length text → length text ≤ end → outcome (progress 0 s from out) (lend image buffer) ≡ z
-    run_end k h = rw (lines_none [] (drop from text) (rw (length-drop, gap) (omega (arith, line_end text from end p)))) at inv
+    pub run_end : (g : Progress) → g.error ≡ None → g.session ≡ s → g.next ≡ from → g.length ≡ out → from ≤ length text → length text ≤ end
+        → outcome (run_answer g) (lend image buffer) ≡ z
+    run_end g e₀ e₁ e₂ e₃ k h =
+        let q : progress 0 s from out ≡ run_answer g = λ j. progress (number_or_none (sym e₀ j)) (sym e₁ j) (sym e₂ j) (sym e₃ j) in
+        rw (← q) (rw (lines_none [] (drop from text) (rw (length-drop, gap) (omega (arith, line_end text from end p)))) at inv)
 
     module _ (h : end < length text) where
       first : lines_of (drop from text) ≡ take (end - from) (drop from text) ∷ lines_of (drop (end + 1) text)
@@ -122,17 +120,21 @@ module _ (l : Layout) (report : ℕ) (text image buffer : List ℕ) (s : Session
           lines_first [] (drop from text) (rw (length-drop, gap) (omega (arith, line_end text from end p)))
           ∙ rw (gap, drop-drop, m)
 
-      -- a is what the line's answer was, with the length of all replies
-      module _ (image' buffer' : List ℕ) (a : Answered)
-          (q : outcome (answered a.error a.session (a.length - out)) (lend image' buffer') ≡ run_line l report image s (take (end - from) (drop from text)) buffer out) where
-        pub run_more : a.error ≡ 0 → out ≤ a.length → run_lines l report image' a.session (lines_of (drop (end + 1) text)) buffer' (end + 1) a.length ≡ z
+      -- a is what the line's answer was
+      module _ (image' buffer' : List ℕ) (a : Result Answered Error)
+          (q : outcome (line_answer s a) (lend image' buffer') ≡ run_line l report image s (take (end - from) (drop from text)) buffer out) where
+        pub run_more : (w : Answered) → a ≡ Ok w → run_lines l report image' w.session (lines_of (drop (end + 1) text)) buffer' (end + 1) (out + w.length) ≡ z
         unfolding outcome
-        run_more r u =
+        run_more w r =
             let n : from + length (take (end - from) (drop from text)) + 1 ≡ end + 1
             = rw (length-take, length-drop) (omega (arith, line_end text from end p)) in
-            let m : out + (a.length - out) ≡ a.length = omega arith in
-            rw (first, ← q, r, n, m) at inv
+            rw (first, ← q, r, n) at inv
 
-        pub run_stop : (a.error ≡ 0 → ⊥) → outcome (progress a.error a.session from out) (lend image' buffer') ≡ z
+        pub run_stop : (e : Error) → a ≡ Err e → outcome (progress (number e) s from out) (lend image' buffer') ≡ z
         unfolding outcome
-        run_stop r = rw (first, ← q, ne_eqb a.error 0 r) at inv
+        run_stop e r = rw (first, ← q, r, ne_eqb (number e) 0 (λ y. omega (arith, number_some e))) at inv
+
+-- what proves `run_line` and `run`
+pub ruleset one_line = (line_runs, line_fits, answers, answers_not)
+
+pub ruleset lines = (run_start, run_done, run_end, run_more, run_stop)

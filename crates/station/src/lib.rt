@@ -1,6 +1,7 @@
-// The functions exported to C: thin covers over the libraries' own, with their contracts. Nothing
-// is kept between calls, and nothing requires anything of its arguments. In C a slice is a pointer
-// and a length, and a null pointer with length 0 is the empty one.
+// The functions exported to C: thin covers over the libraries' own, which answer numbers where
+// those answer refusals. Nothing is kept between calls, and nothing requires anything of its
+// arguments. In C a slice is a pointer and a length, and a null pointer with length 0 is the empty
+// one.
 #![tactic(auto)]
 
 ghost use Rattle.std.specs.Prelude.{◌≡◌};
@@ -10,8 +11,9 @@ ghost use Rattle.imagerules.specs.File.{parse_image, check_error};
 ghost use Rattle.parameterrules.specs.Parameter.{get, set};
 ghost use Rattle.parameterrules.specs.Commits.{set_lower};
 
+use flashrules::error::number_of;
 use flashrules::layout::Layout;
-use parameterrules::parameter::{Parameter, ParameterValue};
+use parameterrules::parameter::{Parameter, ParameterValue, Value};
 
 // Document 01: "The checksum takes any number of bytes and sums them all".
 #[unsafe(no_mangle)]
@@ -26,7 +28,7 @@ pub extern "C" fn oversnithe_checksum(bytes: &[u8]) -> u8
 pub extern "C" fn oversnithe_image_check(text: &[u8]) -> u8
     ensures { result ≡ check_error (parse_image text.now) }
 {
-    imagereader::check(text)
+    number_of(imagereader::check(text).err())
 }
 
 #[unsafe(no_mangle)]
@@ -37,7 +39,18 @@ pub extern "C" fn oversnithe_parameter_get(
 ) -> ParameterValue
     ensures { result ≡ get layout image.now parameter }
 {
-    parameters::get(layout, image, parameter)
+    match parameters::get(layout, image, parameter) {
+        Ok(Value { value, in_range }) => ParameterValue {
+            error: 0,
+            value,
+            in_range,
+        },
+        Err(error) => ParameterValue {
+            error: error.number(),
+            value: 0,
+            in_range: false,
+        },
+    }
 }
 
 #[unsafe(no_mangle)]
@@ -49,7 +62,7 @@ pub extern "C" fn oversnithe_parameter_set(
 ) -> u8
     ensures { outcome result image.new ≡ set layout image.old parameter value }
 {
-    parameters::set(layout, image, parameter, value)
+    number_of(parameters::set(layout, image, parameter, value).err())
 }
 
 // What a cut of power between the two commits of a set leaves.
@@ -62,5 +75,5 @@ pub extern "C" fn oversnithe_parameter_set_lower(
 ) -> u8
     ensures { outcome result image.new ≡ set_lower layout image.old parameter value }
 {
-    parameters::set_lower(layout, image, parameter, value)
+    number_of(parameters::set_lower(layout, image, parameter, value).err())
 }

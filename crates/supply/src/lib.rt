@@ -3,25 +3,28 @@
 #![tactic(auto)]
 
 ghost use Rattle.std.specs.Prelude.{◌≡◌};
+ghost use Rattle.gaugerules.specs.Answer.{supply_answer};
 ghost use Rattle.gaugerules.specs.Supply.{set_supply};
 
+use flashrules::error::Error;
 use flashrules::layout::Layout;
-use gaugerules::answer::Supplied;
 use gaugerules::state::{Gauge, MAX_SUPPLY};
-use gaugestate::entry::entry_error;
+use gaugestate::entry::check_entry;
 
-// To so many millivolts, in any mode; the image has so many bytes. Refused, the gauge is as it was.
-pub fn set_supply(layout: Layout, image_len: usize, gauge: Gauge, millivolts: u16) -> Supplied
-    ensures { result ≡ set_supply layout image_len gauge millivolts }
+// To so many millivolts, in any mode; the image has so many bytes. A refused one leaves the
+// gauge as it was.
+#[tactic(auto, using(crate::proofs::SupplyLaws::supply_is))]
+pub fn set_supply(
+    layout: Layout,
+    image_len: usize,
+    gauge: Gauge,
+    millivolts: u16,
+) -> Result<Gauge, Error>
+    ensures { supply_answer gauge result ≡ set_supply layout image_len gauge millivolts }
 {
-    let error = entry_error(layout, image_len, gauge, MAX_SUPPLY < millivolts);
-    if error == 0 {
-        let mut next = gauge;
-        next.supply = millivolts;
-        return Supplied {
-            error: 0,
-            gauge: next,
-        };
-    }
-    Supplied { error, gauge }
+    check_entry(layout, image_len, gauge, MAX_SUPPLY < millivolts)?;
+    Ok(Gauge {
+        supply: millivolts,
+        ..gauge
+    })
 }

@@ -7,8 +7,8 @@
 #![tactic(auto)]
 
 use scripthost::files::run_files;
-use scriptrules::session::REPORT_CAUSES;
+use scriptrules::session::Report;
 
 fn main(rt: HostRuntime) {
-    run_files(&rt, REPORT_CAUSES);
+    run_files(&rt, Report::Causes);
 }

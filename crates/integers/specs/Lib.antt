@@ -1,0 +1,2 @@
+pub mod Kind
+pub mod Laws

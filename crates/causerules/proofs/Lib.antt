@@ -4,3 +4,4 @@ pub mod ReasonLaws
 pub mod SupplyLaws
 pub mod ChecksumLaws
 pub mod Laws
+pub mod AnswerLaws

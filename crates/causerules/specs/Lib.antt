@@ -1,4 +1,5 @@
 pub mod Answer
+pub mod AnswerLaws
 pub mod History
 pub mod Cause
 pub mod Notes

@@ -1,8 +1,8 @@
 -- Laws of the refusals' numbers: no refusal has the number 0, and no two have one number.
-use Rattle.std.specs.Prelude.{ℕ, ◌≡◌, cond, eqb, Result, Ok, Err}
+use Rattle.std.specs.Prelude.{ℕ, ◌≡◌, cond, eqb, Option, Some, None, Result, Ok, Err}
 use mathlib.Core.Path.{refl, sym, ap, ◌∙◌}
 use native.Mathlib.Omega.{arith}
-use Rattle.flashrules.specs.Error.{number, number_of}
+use Rattle.flashrules.specs.Error.{number, number_or_none, number_of}
 use Rattle.flashrules.specs.Laws.{NumberSome, NumbersApart}
 use Rattle.flashrules.specs.declared.error.Error.{Error}
 
@@ -70,6 +70,13 @@ error_at_number Error.LayoutMismatch = refl
 
 pub numbers_apart : NumbersApart
 numbers_apart e f p = sym (error_at_number e) ∙ ap error_at p ∙ error_at_number f
+
+-- and with 0 for none no two either
+pub none_apart : (a b : Option Error) → number_or_none a ≡ number_or_none b → a ≡ b
+none_apart None None p = refl
+none_apart None (Some f) p = absurd (omega (arith, p, number_some f))
+none_apart (Some e) None p = absurd (omega (arith, p, number_some e))
+none_apart (Some e) (Some f) p = ap Some (numbers_apart e f p)
 
 -- ---- for the callers of a check, which answers n
 

@@ -45,6 +45,15 @@ impl Error {
     }
 }
 
+// Its number, so that what takes any number takes a refusal too.
+impl From<Error> for u8 {
+    ghost from_gives = { λ e n. n ≡ number e };
+
+    fn from(error: Error) -> u8 {
+        error.number()
+    }
+}
+
 // The number that stands in a reply: 0 where nothing was refused.
 pub fn number_of(error: Option<Error>) -> u8
     ensures { result ≡ number_or_none error }

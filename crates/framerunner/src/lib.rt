@@ -6,4 +6,5 @@
 mod explain;
 pub mod frame;
 mod reply;
+pub mod report;
 pub mod session;

@@ -87,7 +87,7 @@ fn read_registers(
 
 // A read frame is run, and replied to.
 #[tactic(auto, using(crate::proofs::PutLaws::reads))]
-fn reply_read(
+pub(crate) fn reply_read(
     layout: Layout,
     image: &[u8],
     session: Session,
@@ -114,7 +114,7 @@ fn reply_read(
 
 // A supply frame is run, and replied to.
 #[tactic(auto, using(crate::proofs::PutLaws::supplies))]
-fn reply_supply(
+pub(crate) fn reply_supply(
     layout: Layout,
     image: &[u8],
     session: Session,

@@ -16,16 +16,16 @@ use gaugerules::register::Register;
 use gaugerules::state::{Gauge, SEALED};
 
 // A number that a sealed gauge does not show.
-fn unless_sealed(gauge: Gauge, value: u8) -> u8
-    ensures { result ≡ unless_sealed gauge value }
+fn unless_sealed(gauge: &Gauge, value: u8) -> u8
+    ensures { result ≡ unless_sealed gauge.now value }
 {
     if gauge.mode == SEALED { 0 } else { value }
 }
 
 // What a register reads.
 #[tactic(auto, using(crate::proofs::ReadLaws::reads_register))]
-fn read_byte(gauge: Gauge, register: usize) -> u8
-    ensures { result ≡ read_byte gauge register }
+fn read_byte(gauge: &Gauge, register: usize) -> u8
+    ensures { result ≡ read_byte gauge.now register }
 {
     let [low, high] = gauge.result.to_le_bytes();
     match decode(register) {
@@ -61,8 +61,8 @@ fn check_read(
 
 // The registers from one on, as many as there is room for.
 #[tactic(auto, unfolding(gaugerules::specs::Read::read_bytes))]
-fn fill(gauge: Gauge, register: u8, buffer: &mut [u8])
-    ensures { buffer.new ≡ read_bytes gauge register (length buffer.old) }
+fn fill(gauge: &Gauge, register: u8, buffer: &mut [u8])
+    ensures { buffer.new ≡ read_bytes gauge.now register (length buffer.old) }
 {
     for (i, byte) in buffer.iter_mut().enumerate() {
         *byte = read_byte(gauge, usize::from(register) + i);
@@ -82,6 +82,6 @@ pub fn read(
     ensures { outcome (read_answer result) buffer.new ≡ read layout image.now gauge register count buffer.old }
 {
     check_read(layout, image.len(), gauge, register, count, buffer.len())?;
-    fill(gauge, register, &mut buffer[..count]);
+    fill(&gauge, register, &mut buffer[..count]);
     Ok(count)
 }

@@ -1,5 +1,6 @@
 -- The claims of specs/, proved: what crates above cite. Each proof stands with the laws that it
 -- rests on.
+pub use Rattle.gaugerules.proofs.AnswerLaws.{byte_answers_apart, write_answers_apart, read_answers_apart, supply_answers_apart}
 pub use Rattle.gaugerules.proofs.ByteLaws.{refused_byte, byte_changed, bytes_stand, only_commit}
 pub use Rattle.gaugerules.proofs.ErrorLaws.{byte_error, byte_errors, info_loads}
 pub use Rattle.gaugerules.proofs.ValidLaws.{power_on_valid, byte_good, write_good}

@@ -1,4 +1,5 @@
 pub mod Laws
+pub mod AnswerLaws
 pub mod RegisterLaws
 pub mod LoadedLaws
 pub mod BlockAccessLaws

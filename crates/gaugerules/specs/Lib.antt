@@ -1,5 +1,6 @@
 pub mod State
 pub mod Answer
+pub mod AnswerLaws
 pub mod Valid
 pub mod Register
 pub mod Keys

@@ -1,25 +1,23 @@
 // What goes to standard output and standard error.
-ghost use Rattle.std.specs.Prelude.{◌≡◌, [], ◌∷◌, Ok, MatchResult, IsErr};
-ghost use Rattle.flashrules.specs.Error.{number};
+ghost use Rattle.std.specs.Prelude.{ℕ, ◌≡◌, [], ◌∷◌, Ok, MatchResult, IsErr};
 ghost use Rattle.hextext.specs.Hex.{hex_line};
 
-use flashrules::error::Error;
 use hextext::encode_line;
 use std::io;
 use std::io::Write;
 use std::str::from_utf8;
 
 // The line that a refused program prints: the number alone.
-pub fn refusal_line(error: Error) -> [u8; 3]
-    ensures { result ≡ hex_line (number error ∷ []) }
+pub fn refusal_line<E: Into<u8>>(error: E) -> [u8; 3]
+    ensures { (n : ℕ) × E.converts error n × (result ≡ hex_line (n ∷ [])) }
 {
     let mut line = [0u8; 3];
-    encode_line(&[error.number()], &mut line, 0);
+    encode_line(&[error.into()], &mut line, 0);
     line
 }
 
 // Prints it.
-pub fn refuse<R: Print + Eprint + AllocGlobal>(rt: &R, error: Error) {
+pub fn refuse<R: Print + Eprint + AllocGlobal, E: Into<u8>>(rt: &R, error: E) {
     let line = refusal_line(error);
     let _ = print(rt, &line);
 }

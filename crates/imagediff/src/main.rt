@@ -6,7 +6,7 @@
 // What is printed is proved of crate `delta`, whose call does all the work; here it is fed.
 #![tactic(auto)]
 
-ghost use Rattle.std.specs.Prelude.{◌≡◌, ◌⊎◌, true, false, length, IfErr, MatchResult};
+ghost use Rattle.std.specs.Prelude.{◌≡◌, ◌≤◌, true, false, length, IfErr, IsOkAnd, MatchResult};
 ghost use Rattle.flashrules.specs.Layout.{fits, same_layout};
 ghost use Rattle.flashrules.specs.declared.error.Error.TheVariants.{Malformed, LayoutMismatch};
 
@@ -18,8 +18,31 @@ use hostio::image_file::load;
 use hostio::output::{print, refuse, report};
 use std::rt::Files;
 
-// Prints the list of two good files; nothing printed means equal images. They are refused only
-// because their layouts differ: the buffer has room for the longest list that there is.
+// The one refusal that a file can meet.
+fn refuse_file<R: Print + Eprint + AllocGlobal>(rt: &R, error: Error)
+    requires { error ≡ Malformed }
+{
+    refuse(rt, error);
+}
+
+// The one refusal that two good files can meet.
+fn refuse_layouts<R: Print + Eprint + AllocGlobal>(rt: &R, error: Error)
+    requires { error ≡ LayoutMismatch }
+{
+    refuse(rt, error);
+}
+
+// The list, at the front of a text, where there is no refusal: nothing printed means equal images.
+fn print_list<R: Print + Eprint + AllocGlobal>(rt: &R, written: Result<usize, Error>, text: &[u8])
+    requires { IsOkAnd written (λ n. n ≤ length text.now) }
+{
+    if let Ok(length) = written {
+        let _ = print(rt, &text[..length]);
+    }
+}
+
+// Prints the list of two good files. They are refused only because their layouts differ: the buffer
+// has room for the longest list that there is.
 #[tactic(auto, using(crate::proofs::ShowLaws::shows))]
 fn show<R: Print + Eprint + AllocGlobal>(
     rt: &R,
@@ -32,9 +55,10 @@ fn show<R: Print + Eprint + AllocGlobal>(
     ensures { MatchResult result (λ _. same_layout layout other ≡ true) (λ error. (error ≡ LayoutMismatch) × (same_layout layout other ≡ false)) }
 {
     let mut text = [0u8; MAX_RUNS_TEXT];
-    match compare(layout, old, other, new, &mut text) {
-        Ok(length) => {
-            let _ = print(rt, &text[..length]);
+    let written = compare(layout, old, other, new, &mut text);
+    match written {
+        Ok(_) => {
+            print_list(rt, written, &text);
             Ok(())
         }
         Err(error) => {
@@ -44,10 +68,11 @@ fn show<R: Print + Eprint + AllocGlobal>(
     }
 }
 
-// Prints the list of the two files. A file meets one refusal, and two good files another one.
+// Prints the list of the two files, as `show` does where both are good. A file meets one refusal,
+// and two good files another one.
 #[tactic(auto, using(crate::proofs::ShowLaws::files))]
-fn show_files<R: Files + Print + Eprint + AllocGlobal>(rt: &R) -> Result<(), Error>
-    ensures { IfErr result (λ error. (error ≡ Malformed) ⊎ (error ≡ LayoutMismatch)) }
+fn show_files<R: Files + Print + Eprint + AllocGlobal>(rt: &R) -> Result<Result<(), Error>, Error>
+    ensures { MatchResult result (λ shown. IfErr shown (λ error. error ≡ LayoutMismatch)) (λ error. error ≡ Malformed) }
 {
     let mut old_bytes = [0u8; MAX_IMAGE_LENGTH];
     let mut new_bytes = [0u8; MAX_IMAGE_LENGTH];
@@ -55,17 +80,19 @@ fn show_files<R: Files + Print + Eprint + AllocGlobal>(rt: &R) -> Result<(), Err
     let new = load(rt, b"new.hex", &mut new_bytes);
     let old = old?;
     let new = new?;
-    show(
+    Ok(show(
         rt,
         old.layout,
         &old_bytes[..old.length],
         new.layout,
         &new_bytes[..new.length],
-    )
+    ))
 }
 
 fn main(rt: HostRuntime) {
-    if let Err(error) = show_files(&rt) {
-        refuse(&rt, error);
+    match show_files(&rt) {
+        Ok(Ok(())) => {}
+        Ok(Err(error)) => refuse_layouts(&rt, error),
+        Err(error) => refuse_file(&rt, error),
     }
 }

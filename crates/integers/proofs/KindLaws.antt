@@ -1,10 +1,15 @@
 -- The numbers of the kinds: each kind has one, and a byte that is none of them has no bytes.
-use Rattle.std.proofs.Common.{ℕ, ◌%◌, ◌≤◌, ◌≡◌, refl, sym, ◌∙◌, cond, eqb, Option, Some, None, arith}
+use Rattle.std.proofs.Common.{ℕ, zero, suc, ◌%◌, ◌≤◌, ◌≡◌, refl, sym, ◌∙◌, Bool, true, false, not, List, [], ◌∷◌, take, cond, eqb, ltb, ℤ, pos, negsuc, Option, Some, None, Result, Ok, Err, Fits, w8, arith}
+use Rattle.std.proofs.lemmas.Bool.{le-ltb}
+use Rattle.std.proofs.lemmas.List.Edits.{sets}
+use Rattle.std.specs.Int.Signed.{mag}
 use borrow.Author.Tests.{eqb-true, eqb-false, ne_eqb}
 use Rattle.flashrules.specs.Image.{max_byte}
 use Rattle.flashrules.proofs.Picks.{on_test}
-use Rattle.parameterrules.specs.Kind.{signed_bit, width_of}
-use Rattle.integers.specs.Kind.{number, kind_of}
+use Rattle.parameterrules.specs.Integer.{is_negative, integer, sign_of, magnitude_of, fits_in, to_bytes, from_bytes}
+use Rattle.parameterrules.specs.Kind.{signed_bit, width_of, is_signed, holds}
+use Rattle.flashrules.specs.declared.error.Error.{Error}
+use Rattle.integers.specs.Kind.{number, kind_of, kind_result}
 use Rattle.integers.specs.Laws.{KindNumbered, KindFound, KindMissing}
 use Rattle.integers.specs.declared.kind.Kind.{Kind}
 
@@ -71,3 +76,52 @@ width_missing n h =
 
 pub kind_missing : KindMissing
 kind_missing n h = (missing_width n h, width_missing n)
+
+-- ---- a number that is tried
+
+pub result_some : (o : Option Kind) (k : Kind) → kind_result o ≡ Ok k → o ≡ Some k
+result_some (Some j) k e = let r : j ≡ k = cc in rw r
+result_some None k e = absurd (let z : ◌≡◌ {A = ℕ} 0 1 = cc in omega arith)
+
+pub result_none : (o : Option Kind) (e : Error) → kind_result o ≡ Err e → (o ≡ None) × (e ≡ Error.InvalidParameter)
+result_none (Some j) e p = absurd (let z : ◌≡◌ {A = ℕ} 0 1 = cc in omega arith)
+result_none None e p = (refl, cc)
+
+-- no bytes at all, by the sign
+zero_read : (b : Bool) → pos 0 ≡ integer (sign_of b 0) (magnitude_of (sign_of b 0) [])
+zero_read true = refl
+zero_read false = refl
+
+zero_by_sign : (b : Bool) → not b ≡ cond b (ltb 0 0) (ltb 0 1)
+zero_by_sign true = refl
+zero_by_sign false = refl
+
+other_by_sign : (b : Bool) (v : ℤ) → (v ≡ pos 0 → ⊥) → false ≡ cond b (ltb (mag v) 0) (cond (is_negative v) false (ltb (mag v) 1))
+other_by_sign b (pos zero) x = absurd (x refl)
+other_by_sign true (pos (suc n)) x = sym (le-ltb (suc n) 0 (omega arith))
+other_by_sign false (pos (suc n)) x = sym (le-ltb (suc n) 1 (omega arith))
+other_by_sign true (negsuc n) x = sym (le-ltb n 0 (omega arith))
+other_by_sign false (negsuc n) x = refl
+
+-- one that is no kind has no bytes
+module _ (n : ℕ) (r : Result Kind Error) (p : r ≡ kind_result (kind_of n)) (e : Error) (q : r ≡ Err e) (h : Fits w8 n) where
+  pub no_bytes : 0 ≡ width_of n
+  no_bytes = let f = h.fits in sym (missing_width n (omega (arith, f)) (result_none (kind_of n) e (sym p ∙ q)).0)
+
+  pub nothing_stored : (v : ℤ) → 0 ∷ 0 ∷ 0 ∷ 0 ∷ [] ≡ sets (0 ∷ 0 ∷ 0 ∷ 0 ∷ []) 0 (to_bytes (width_of n) v)
+  unfolding to_bytes
+  nothing_stored v = rw (← no_bytes) refl
+
+  pub nothing_read : (bs : List ℕ) → pos 0 ≡ from_bytes (is_signed n) (take (width_of n) bs)
+  unfolding from_bytes
+  nothing_read bs = rw (← no_bytes) (zero_read (is_signed n))
+
+  pub zero_held : (v : ℤ) (b : Bool) → v ≡ pos 0 → b ≡ is_signed n → not b ≡ holds n v
+  unfolding holds fits_in
+  zero_held v b x y = rw (← no_bytes, x, y) (zero_by_sign (is_signed n))
+
+  pub other_not_held : (v : ℤ) → (v ≡ pos 0 → ⊥) → false ≡ holds n v
+  unfolding holds fits_in
+  other_not_held v x = rw (← no_bytes) (other_by_sign (is_signed n) v x)
+
+pub ruleset none = (no_bytes, nothing_stored, nothing_read, zero_held, other_not_held)

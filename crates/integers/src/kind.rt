@@ -5,6 +5,7 @@ ghost use Rattle.parameterrules.specs.Kind.{max_width, width_of, is_signed, hold
 ghost use Rattle.integers.specs.Kind.{number, kind_of, kind_result};
 
 use flashrules::error::Error;
+use parameterrules::kind::SIGNED_BIT;
 
 // How many bytes, and 0x80 besides if it is in two's complement. 0 is no kind, so that a row which
 // was never filled in is invalid.
@@ -33,6 +34,15 @@ impl TryFrom<u8> for Kind {
             0x84 => Ok(Kind::I32),
             _ => Err(Error::InvalidParameter),
         }
+    }
+}
+
+// Its number, so that what takes any number takes a kind too.
+impl From<Kind> for u8 {
+    ghost from_gives = { λ k n. n ≡ number k };
+
+    fn from(kind: Kind) -> u8 {
+        kind.number()
     }
 }
 
@@ -77,5 +87,38 @@ impl Kind {
             Kind::I16 => i16::try_from(value).is_ok(),
             Kind::I32 => i32::try_from(value).is_ok(),
         }
+    }
+}
+
+// The same of any number: how many bytes a kind has, 0 where the number is no kind.
+#[tactic(auto, using(crate::proofs::KindLaws::none))]
+pub fn width(kind: u8) -> usize
+    ensures value { result ≡ width_of kind }
+    ensures upper_bound { result ≤ max_width }
+{
+    match Kind::try_from(kind) {
+        Ok(kind) => kind.width(),
+        Err(_) => 0,
+    }
+}
+
+#[tactic(auto, unfolding(parameterrules::specs::Kind::is_signed))]
+pub fn signed(kind: u8) -> bool
+    ensures { result ≡ is_signed kind }
+{
+    SIGNED_BIT <= kind
+}
+
+// What is no kind has no bytes: without a sign they hold 0, with one nothing.
+#[tactic(auto, using(crate::proofs::KindLaws::none))]
+pub fn holds(kind: u8, value: i64) -> bool
+    ensures { result ≡ holds kind value }
+{
+    match Kind::try_from(kind) {
+        Ok(kind) => kind.holds(value),
+        Err(_) => match value {
+            0 => !signed(kind),
+            _ => false,
+        },
     }
 }

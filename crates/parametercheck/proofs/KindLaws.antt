@@ -10,7 +10,7 @@ use Rattle.flashrules.specs.declared.error.Error.{Error}
 use Rattle.flashrules.specs.declared.layout.Layout.{Layout}
 use Rattle.integers.specs.Kind.{number, kind_of, kind_result}
 use Rattle.integers.specs.declared.kind.Kind.{Kind}
-use Rattle.integers.proofs.KindLaws.{kind_found, kind_missing}
+use Rattle.integers.proofs.KindLaws.{kind_found, kind_missing, result_some, result_none}
 use Rattle.parameterrules.specs.Kind.{width_of, holds}
 use Rattle.parameterrules.specs.Parameter.{valid, get_error}
 use Rattle.parameterrules.specs.declared.parameter.Parameter.{Parameter}
@@ -32,14 +32,6 @@ valid_is p = refl
 pub ruleset valids = (width_some, valid_is)
 
 -- ---- a number that is tried
-
-result_some : (o : Option Kind) (k : Kind) → kind_result o ≡ Ok k → o ≡ Some k
-result_some (Some j) k e = let r : j ≡ k = cc in rw r
-result_some None k e = absurd (let z : ◌≡◌ {A = ℕ} 0 1 = cc in omega arith)
-
-result_none : (o : Option Kind) (e : Error) → kind_result o ≡ Err e → (o ≡ None) × (e ≡ Error.InvalidParameter)
-result_none (Some j) e p = absurd (let z : ◌≡◌ {A = ℕ} 0 1 = cc in omega arith)
-result_none None e p = (refl, cc)
 
 module _ (p : Parameter) (r : Result Kind Error) (t : r ≡ kind_result (kind_of p.kind)) where
   pub kind_number : (k : Kind) → r ≡ Ok k → number k ≡ p.kind

@@ -1,4 +1,5 @@
 pub mod Laws
+pub mod AnswerLaws
 pub mod IntegerLaws
 pub mod PlaceLaws
 pub mod ParameterLaws

@@ -30,10 +30,10 @@ fn good_lines<R: Eprint + AllocGlobal, F: Read>(rt: &R, file: &mut F, buffer: &m
     let mut lines = 0;
     for _ in 0..u64::MAX {
         let count = read_some(rt, file, b"script.hex", buffer).unwrap_or(0);
+        (state, lines) = count_lines(state, lines, &buffer[..count]);
         if count == 0 || state.is_none() {
             break;
         }
-        (state, lines) = count_lines(state, lines, &buffer[..count]);
     }
     lines
 }

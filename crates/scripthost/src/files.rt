@@ -40,8 +40,8 @@ fn try_files<R: Files + Print + Eprint + AllocGlobal>(
 }
 
 // The same; where a file is refused, the single line 0A is printed.
-pub fn run_files<R: Files + Print + Eprint + AllocGlobal>(rt: &R, report: Report) {
-    if try_files(rt, report).is_err() {
+pub fn run_files<R: Files + Print + Eprint + AllocGlobal, P: Into<u8>>(rt: &R, report: P) {
+    if try_files(rt, Report::from(report.into())).is_err() {
         refuse_files(rt, Error::Malformed);
     }
 }

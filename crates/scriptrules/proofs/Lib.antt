@@ -4,6 +4,7 @@ pub mod HostLaws
 pub mod LineLaws
 pub mod ParserLaws
 pub mod Laws
+pub mod ApartLaws
 pub mod ReplyLaws
 pub mod RunLaws
 pub mod ScriptLaws

@@ -29,7 +29,8 @@ use Rattle.scriptrules.specs.Frame.{Frame, write_frame, read_frame, supply_frame
 use Rattle.scriptrules.specs.Reply.{max_reply, reply_text, replies, after_frame}
 use Rattle.scriptrules.specs.Replay.{replay}
 use Rattle.scriptrules.specs.Why.{frame_steps, explanation, explanations, why}
-use Rattle.scriptrules.specs.Session.{report_causes, Runner, fresh_runner, device_of, track_frame, track_supply_frame, noted_text}
+use Rattle.scriptrules.specs.Run.{run_frame}
+use Rattle.scriptrules.specs.Session.{report_causes, report_number, report_of, Runner, fresh_runner, device_of, track_frame, track_supply_frame, noted_text}
 use Rattle.scriptrules.specs.Session.{frame_text, after_line, after_replied, outputs, after_lines}
 use Rattle.scriptrules.specs.Laws.{ReportTaken, OutputLength, OutputWhole}
 use Rattle.scriptrules.proofs.ReplyLaws.{reply_length}
@@ -151,6 +152,12 @@ output_whole report x y l bytes fs p q t =
     let few = ltb-false max_lines (length fs) (rw e at t) in
     rw (e, p, q, le-ltb max_lines (length fs) few) (reports_causes l report (fresh_runner bytes) [] fs e (blank_remembers) (omega arith)))
     (λ e. rw (e, p, q) (reports_replies l report (fresh_runner bytes) fs e))
+
+-- of one frame too
+pub frame_taken : (l : Layout) (report : ℕ) (b : Runner) (f : Frame) (buffer : List ℕ) (at : ℕ)
+    → run_frame l (report_number (report_of report)) b f buffer at ≡ run_frame l report b f buffer at
+unfolding run_frame frame_text after_line
+frame_taken l report b f buffer at = on_test (eqb report report_causes) (λ p. rw p) (λ p. rw p)
 
 pub report_taken : ReportTaken
 report_taken report x y = on_test (eqb report report_causes) (λ p. rw p) (λ p. rw p)

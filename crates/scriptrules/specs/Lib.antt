@@ -4,6 +4,7 @@ pub mod Reply
 pub mod Replay
 pub mod Why
 pub mod Answer
+pub mod AnswerLaws
 pub mod Given
 pub mod Session
 pub mod Run

@@ -1,7 +1,7 @@
 // A session, and what a script puts out: a reply to each line, or a line for each refused write and
 // supply.
 ghost use Rattle.std.specs.Prelude.{◌≡◌};
-ghost use Rattle.scriptrules.specs.Session.{report_of};
+ghost use Rattle.scriptrules.specs.Session.{report_number, report_of};
 
 use causerules::notes::Notes;
 use gaugerules::state::Gauge;
@@ -20,6 +20,18 @@ impl From<u8> for Report {
         match number {
             1 => Report::Causes,
             _ => Report::Replies,
+        }
+    }
+}
+
+// The number of a report. Whatever has one is taken as a report: a number, or a `Report`.
+impl From<Report> for u8 {
+    ghost from_gives = { λ r n. n ≡ report_number r };
+
+    fn from(report: Report) -> u8 {
+        match report {
+            Report::Replies => 0,
+            Report::Causes => 1,
         }
     }
 }

@@ -25,7 +25,9 @@ use Rattle.imagerules.proofs.LineLaws.{line_end}
 use Rattle.scriptrules.specs.Frame.{frame_of, lines_after, lines_of}
 use Rattle.scriptrules.specs.Parser.{is_frame}
 use Rattle.scriptrules.specs.Reply.{max_reply}
-use Rattle.scriptrules.specs.Session.{runner}
+use Rattle.scriptrules.specs.Session.{report_number, report_of, runner}
+use Rattle.scriptrules.specs.declared.session.Report.{Report}
+use Rattle.scriptrules.proofs.SessionLaws.{frame_taken}
 use Rattle.scriptrules.specs.Run.{Lent, lend, line_tests, line_error, answered, run_frame, run_line, progress, run_lines, run}
 use Rattle.scriptrules.specs.declared.session.Session.{Session}
 use Rattle.scriptrules.specs.declared.answer.Answered.{Answered}
@@ -67,9 +69,13 @@ module _ (line : List ℕ) (room : ℕ) (r : Result Unit Error) (p : number_of r
 
 module _ (l : Layout) (report : ℕ) (image : List ℕ) (s : Session) (line buffer : List ℕ) (at : ℕ) (r : Result Unit Error)
     (p : number_of r ≡ line_error line (length buffer - at)) where
-  pub answers : (z : Outcome LineAnswer Lent) → r ≡ Ok tt → z ≡ run_frame l report (runner s image) (frame_of line) buffer at → z ≡ run_line l report image s line buffer at
+  -- the report is that of the number
+  pub answers : (z : Outcome LineAnswer Lent) (k : Report) → k ≡ report_of report → r ≡ Ok tt
+      → z ≡ run_frame l (report_number k) (runner s image) (frame_of line) buffer at → z ≡ run_line l report image s line buffer at
   unfolding run_line
-  answers z q x = x ∙ rw (check_passed r _ p tt q)
+  answers z k t q x =
+      let y : z ≡ run_frame l report (runner s image) (frame_of line) buffer at = rw t at x ∙ frame_taken l report (runner s image) (frame_of line) buffer at in
+      y ∙ rw (check_passed r _ p tt q)
 
   pub answers_not : (e : Error) → r ≡ Err e → outcome (answered (number e) s 0) (lend image buffer) ≡ run_line l report image s line buffer at
   unfolding run_line

@@ -1,7 +1,7 @@
 // Frames are run in a session, over its image, and what they put out goes into a lent buffer: a
 // line at a time, or all whole lines of a text.
 // Stays: layout, image and session are parameters of their own, as `flashrules::layout` says.
-ghost use Rattle.std.specs.Prelude.{◌≡◌, true, ◌-◌, ◌≤◌, length, replicate};
+ghost use Rattle.std.specs.Prelude.{ℕ, ◌≡◌, true, ◌-◌, ◌≤◌, length, replicate};
 ghost use Rattle.std.proofs.lemmas.List.Edits.{sets};
 ghost use Rattle.hextext.specs.Hex.{unhex};
 ghost use Rattle.flashrules.specs.Error.{number_of};
@@ -10,7 +10,6 @@ ghost use Rattle.scriptrules.specs.Answer.{line_answer, run_answer};
 ghost use Rattle.scriptrules.specs.Frame.{max_frame, frame_of};
 ghost use Rattle.scriptrules.specs.Given.{frame_given};
 ghost use Rattle.scriptrules.specs.Parser.{is_frame};
-ghost use Rattle.scriptrules.specs.Session.{report_number};
 ghost use Rattle.scriptrules.specs.Run.{lend, line_error, run_line, run};
 
 use flashrules::error::Error;
@@ -63,18 +62,19 @@ fn frame_in<'a>(line: &[u8], bytes: &'a [u8; MAX_FRAME]) -> Frame<'a>
 // One line, without its line feed, is run; what it puts out goes into the buffer from an index on.
 // A refused line alters nothing.
 #[tactic(auto, using(crate::proofs::LoopLaws::one_line))]
-pub fn run_line(
+pub fn run_line<P: Into<u8>>(
     layout: Layout,
-    report: Report,
+    report: P,
     image: &mut [u8],
     session: Session,
     line: &[u8],
     buffer: &mut [u8],
     at: usize,
 ) -> Result<Answered, Error>
-    ensures buffer_after { outcome (line_answer session result) (lend image.new buffer.new) ≡ run_line layout (report_number report) image.old session line.now buffer.old at }
+    ensures buffer_after { (n : ℕ) × P.converts report n × (outcome (line_answer session result) (lend image.new buffer.new) ≡ run_line layout n image.old session line.now buffer.old at) }
     ensures length_in_bounds { (line_answer session result).length ≤ length buffer.old - at }
 {
+    let report = Report::from(report.into());
     check_line(line, buffer.len(), at)?;
     let mut bytes = [0u8; MAX_FRAME];
     decode(line, &mut bytes, 0);
@@ -86,17 +86,18 @@ pub fn run_line(
 // buffer. 14 says that the buffer has no room for one more: the caller goes on behind `next` with
 // another.
 #[tactic(auto, using(crate::proofs::LoopLaws::lines))]
-pub fn run(
+pub fn run<P: Into<u8>>(
     layout: Layout,
-    report: Report,
+    report: P,
     image: &mut [u8],
     session: Session,
     text: &[u8],
     buffer: &mut [u8],
 ) -> Progress
-    ensures buffer_after { outcome (run_answer result) (lend image.new buffer.new) ≡ run layout (report_number report) image.old session text.now buffer.old }
+    ensures buffer_after { (n : ℕ) × P.converts report n × (outcome (run_answer result) (lend image.new buffer.new) ≡ run layout n image.old session text.now buffer.old) }
     ensures next_in_bounds { (result.next ≤ length text.now) × (result.length ≤ length buffer.old) }
 {
+    let number: u8 = report.into();
     let mut progress = Progress {
         error: None,
         session,
@@ -113,7 +114,7 @@ pub fn run(
         }
         let line = &text[from..end];
         let used = progress.length;
-        match run_line(layout, report, image, progress.session, line, buffer, used) {
+        match run_line(layout, number, image, progress.session, line, buffer, used) {
             Ok(answered) => {
                 progress = Progress {
                     error: None,

@@ -2,7 +2,7 @@
 use Rattle.std.specs.Prelude.{◌≡◌}
 use mathlib.Core.Path.{ap}
 use Rattle.flashrules.proofs.ErrorLaws.{none_apart}
-use Rattle.causerules.specs.Answer.{TrackAnswer}
+use Rattle.causerules.specs.declared.notes.TrackAnswer.{TrackAnswer}
 use Rattle.causerules.specs.AnswerLaws.{TrackAnswersApart}
 
 pub track_answers_apart : TrackAnswersApart

@@ -10,7 +10,7 @@ use Rattle.causerules.specs.History.{Step, write_steps}
 use Rattle.causerules.specs.Cause.{gives, reason_of, cause_text}
 use Rattle.causerules.specs.declared.reason.Reason.{Reason}
 use Rattle.causerules.specs.declared.notes.Notes.{Notes}
-use Rattle.causerules.specs.Answer.{TrackAnswer}
+use Rattle.causerules.specs.declared.notes.TrackAnswer.{TrackAnswer}
 
 abbrev pub notes : ℕ → ℕ → ℕ → ℕ → ℕ → ℕ → Notes
 notes line sealed unloaded protected class window = record {

@@ -1,5 +1,8 @@
 // What is noted of a script's history, so that it need not be kept.
-use flashrules::error::Error;
+ghost use Rattle.std.specs.Prelude.{◌≡◌};
+ghost use Rattle.causerules.specs.Answer.{track_answer};
+
+use flashrules::error::{Error, number_of};
 use gaugerules::state::Gauge;
 
 // How many lines a script may have, so that four bytes can count them.
@@ -19,11 +22,32 @@ pub struct Notes {
     pub window: u32,
 }
 
-// After a write whose bytes were noted: why it ended early, if a byte was refused, the gauge, and
+// After a write whose bytes were noted, or a supply: why it was refused, if it was, the gauge, and
 // what is noted now.
 #[derive(Clone, Copy)]
 pub struct Tracked {
     pub error: Option<Error>,
     pub gauge: Gauge,
     pub notes: Notes,
+}
+
+// The same with a number: document 01's, and 0 where nothing was refused; but any number may stand
+// in it.
+#[derive(Clone, Copy)]
+pub struct TrackAnswer {
+    pub error: u8,
+    pub gauge: Gauge,
+    pub notes: Notes,
+}
+
+impl From<Tracked> for TrackAnswer {
+    ghost from_gives = { λ t a. a ≡ track_answer t };
+
+    fn from(tracked: Tracked) -> TrackAnswer {
+        TrackAnswer {
+            error: number_of(tracked.error),
+            gauge: tracked.gauge,
+            notes: tracked.notes,
+        }
+    }
 }

@@ -1,28 +1,27 @@
 -- The line of a refused write, by its refusal.
-use Rattle.std.proofs.Common.{◌≡◌, List, [], ◌∷◌, ◌++◌, arith, ne_eqb, ℕ}
+use Rattle.std.proofs.Common.{◌≡◌, List, [], ◌∷◌, ◌++◌, ne_eqb, ℕ}
 use Rattle.checksum.specs.Checksum.{checksum}
 use Rattle.flashrules.specs.Error.{wrong_checksum}
-use Rattle.gaugerules.specs.declared.state.Gauge.{Gauge}
 use Rattle.hextext.specs.Hex.{hex_line}
 use Rattle.causerules.specs.Cause.{reason_of, four_bytes, cause_text}
-use Rattle.causerules.specs.Notes.{recall, tracked, tracked_text}
-use Rattle.causerules.specs.declared.notes.Notes.{Notes}
+use Rattle.causerules.specs.Notes.{recall, tracked_text}
+use Rattle.causerules.specs.declared.notes.TrackAnswer.{TrackAnswer}
 
-pub accepted_text : (g : Gauge) (n : Notes) (e : ℕ) → e ≡ 0 → tracked_text (tracked e g n) ≡ []
+pub accepted_text : (t : TrackAnswer) → t.error ≡ 0 → tracked_text t ≡ []
 unfolding tracked_text cause_text
-accepted_text g n e h = rw h
+accepted_text t h = rw h
 
-module _ (g : Gauge) (n : Notes) (e : ℕ) (p : e ≡ 0 → ⊥) where
+module _ (t : TrackAnswer) (p : t.error ≡ 0 → ⊥) where
   -- the bytes of its line
   abbrev pub named : List ℕ
-  named = e ∷ four_bytes (recall n (reason_of e g))
+  named = t.error ∷ four_bytes (recall t.notes (reason_of t.error t.gauge))
 
-  pub matching_text : e ≡ wrong_checksum → tracked_text (tracked e g n) ≡ hex_line (named ++ (checksum g.window ∷ []))
+  pub matching_text : t.error ≡ wrong_checksum → tracked_text t ≡ hex_line (named ++ (checksum t.gauge.window ∷ []))
   unfolding tracked_text cause_text
   matching_text q = rw q
 
-  pub other_text : (e ≡ wrong_checksum → ⊥) → tracked_text (tracked e g n) ≡ hex_line named
+  pub other_text : (t.error ≡ wrong_checksum → ⊥) → tracked_text t ≡ hex_line named
   unfolding tracked_text cause_text
-  other_text q = rw (ne_eqb e 0 p, ne_eqb e 8 q)
+  other_text q = rw (ne_eqb t.error 0 p, ne_eqb t.error 8 q)
 
 pub ruleset texts = (accepted_text, matching_text, other_text)

@@ -14,7 +14,7 @@ use Rattle.flashrules.proofs.ErrorLaws.{number_some, check_passed, check_number}
 use Rattle.causerules.specs.History.{step, byte_steps, write_steps}
 use Rattle.causerules.specs.Notes.{note, tracked, track}
 use Rattle.causerules.specs.declared.notes.Notes.{Notes}
-use Rattle.causerules.specs.Answer.{TrackAnswer}
+use Rattle.causerules.specs.declared.notes.TrackAnswer.{TrackAnswer}
 use Rattle.causes.specs.Track.{track_bytes}
 
 -- ---- how many bytes were accepted before, and what they changed, shows in the counts alone

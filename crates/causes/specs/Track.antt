@@ -7,7 +7,7 @@ use Rattle.gaugerules.specs.declared.state.Gauge.{Gauge}
 use Rattle.causerules.specs.History.{byte_steps}
 use Rattle.causerules.specs.Notes.{note_all, tracked}
 use Rattle.causerules.specs.declared.notes.Notes.{Notes}
-use Rattle.causerules.specs.Answer.{TrackAnswer}
+use Rattle.causerules.specs.declared.notes.TrackAnswer.{TrackAnswer}
 
 -- `track` (causerules) past the checks of the call, from register r on
 unfoldable pub track_bytes : Layout → List ℕ → Gauge → Notes → ℕ → List ℕ → Outcome TrackAnswer (List ℕ)

@@ -2,23 +2,26 @@
 // Stays: a place beside the buffer, as in `hextext`.
 ghost use Rattle.std.specs.Prelude.{◌≡◌, length};
 ghost use Rattle.std.proofs.lemmas.List.Edits.{sets};
-ghost use Rattle.causerules.specs.Answer.{track_answer};
-ghost use Rattle.causerules.specs.Notes.{tracked, tracked_text};
+ghost use Rattle.causerules.specs.Notes.{tracked_text};
 
 use crate::notes::recall;
 use crate::reason::reason_of;
-use causerules::notes::{Notes, Tracked};
+use causerules::notes::TrackAnswer;
 use checksum::checksum;
-use flashrules::error::{Error, number_of};
-use gaugerules::state::Gauge;
+use flashrules::error::Error;
 use hextext::encode_line;
 
-// Puts the line of a refusal's number, whichever it is, into the buffer from an index on, and says
-// how long it is; nothing for 0.
+// Puts it into the buffer from an index on, and says how long it is; nothing for a write that was
+// accepted. It is given what was tracked, or an answer with any number.
 #[tactic(auto, using(crate::proofs::TextLaws::texts))]
-pub fn put_refusal(error: u8, gauge: Gauge, notes: Notes, buffer: &mut [u8], at: usize) -> usize
-    ensures { (buffer.new ≡ sets buffer.old at (tracked_text (tracked error gauge notes))) × (result ≡ length (tracked_text (tracked error gauge notes))) }
+pub fn put_cause<T: Into<TrackAnswer>>(tracked: T, buffer: &mut [u8], at: usize) -> usize
+    ensures { (n : TrackAnswer) × T.converts tracked n × (buffer.new ≡ sets buffer.old at (tracked_text n)) × (result ≡ length (tracked_text n)) }
 {
+    let TrackAnswer {
+        error,
+        gauge,
+        notes,
+    } = tracked.into();
     if error == 0 {
         return 0;
     }
@@ -31,17 +34,4 @@ pub fn put_refusal(error: u8, gauge: Gauge, notes: Notes, buffer: &mut [u8], at:
         encode_line(&[error, a, b, c, d], buffer, at);
         11
     }
-}
-
-// The same of a write that was tracked; nothing for one that was accepted.
-pub fn put_cause(tracked: Tracked, buffer: &mut [u8], at: usize) -> usize
-    ensures { (buffer.new ≡ sets buffer.old at (tracked_text (track_answer tracked))) × (result ≡ length (tracked_text (track_answer tracked))) }
-{
-    put_refusal(
-        number_of(tracked.error),
-        tracked.gauge,
-        tracked.notes,
-        buffer,
-        at,
-    )
 }

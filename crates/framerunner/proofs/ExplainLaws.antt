@@ -3,7 +3,7 @@ use Rattle.std.proofs.Common.{◌≡◌, ◌∙◌, ap, ℕ, ◌≤◌, List, le
 use Rattle.std.proofs.lemmas.List.Edits.{sets}
 use Rattle.flashrules.specs.Outcome.{Outcome, outcome}
 use Rattle.flashrules.specs.declared.layout.Layout.{Layout}
-use Rattle.causerules.specs.Answer.{TrackAnswer}
+use Rattle.causerules.specs.declared.notes.TrackAnswer.{TrackAnswer}
 use Rattle.causerules.specs.Cause.{cause_text}
 use Rattle.causerules.specs.Notes.{next_line, tracked, track_supply, tracked_text}
 use Rattle.causerules.specs.declared.notes.Notes.{Notes}

@@ -4,7 +4,7 @@ use Rattle.std.specs.Prelude.{ℕ, List, length}
 use Rattle.flashrules.specs.Outcome.{Outcome, outcome}
 use Rattle.flashrules.specs.declared.layout.Layout.{Layout}
 use Rattle.gaugerules.specs.declared.state.Gauge.{Gauge}
-use Rattle.causerules.specs.Answer.{TrackAnswer}
+use Rattle.causerules.specs.declared.notes.TrackAnswer.{TrackAnswer}
 use Rattle.causerules.specs.Notes.{tracked, track, track_supply}
 use Rattle.causerules.specs.declared.notes.Notes.{Notes}
 use Rattle.scriptrules.specs.Frame.{Frame, write_frame, read_frame, supply_frame}

@@ -1,5 +1,5 @@
--- The claims of specs/Laws.antt, proved: what crates above cite. Each proof stands with the laws
--- that it rests on.
+-- The claims of specs/, proved: what crates above cite. Each proof stands with the laws that it
+-- rests on.
 pub use Rattle.imagerules.proofs.AnswerLaws.{file_reads_apart, file_writes_apart}
 pub use Rattle.imagerules.proofs.TextLaws.{text_length_lem}
 pub use Rattle.imagerules.proofs.BlockLaws.{block_line}

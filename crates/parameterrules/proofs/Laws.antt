@@ -1,5 +1,5 @@
--- The claims of specs/Laws.antt and specs/PowerCut.antt, proved: what crates above cite. Each proof
--- stands with the laws that it rests on.
+-- The claims of specs/, proved: what crates above cite. Each proof stands with the laws that it
+-- rests on.
 pub use Rattle.parameterrules.proofs.AnswerLaws.{value_answers_apart}
 pub use Rattle.parameterrules.proofs.IntegerLaws.{to_bytes_length, to_bytes_bytes, to_from_bytes, from_to_bytes, from_bytes_fits, unsigned_bytes, twos_complement}
 pub use Rattle.parameterrules.proofs.PlaceLaws.{upper_block}

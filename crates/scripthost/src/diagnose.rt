@@ -13,7 +13,7 @@ fn count_lines(state: Parser, lines: u64, chunk: &[u8]) -> (Parser, u64) {
     let mut lines = lines;
     for c in chunk {
         state = feed(state, &[*c]);
-        if state.is_none() {
+        if state.is_err() {
             break;
         }
         if *c == LINE_FEED {
@@ -31,7 +31,7 @@ fn good_lines<R: Eprint + AllocGlobal, F: Read>(rt: &R, file: &mut F, buffer: &m
     for _ in 0..u64::MAX {
         let count = read_some(rt, file, b"script.hex", buffer).unwrap_or(0);
         (state, lines) = count_lines(state, lines, &buffer[..count]);
-        if count == 0 || state.is_none() {
+        if count == 0 || state.is_err() {
             break;
         }
     }

@@ -1,5 +1,5 @@
 -- The state of the parser, as the code makes it.
-use Rattle.std.proofs.Common.{◌≡◌, ℕ, true, cond, List, [], ◌∷◌, ◌+◌, ◌<◌, eqb, get_or, length, refl, sym, ◌∙◌, drop, true≢false}
+use Rattle.std.proofs.Common.{◌≡◌, ℕ, true, cond, List, ◌+◌, ◌<◌, eqb, get_or, length, refl, sym, drop, true≢false, false, [], ◌∷◌}
 use Rattle.std.proofs.lemmas.List.{drop_more}
 use borrow.Author.Tests.{eqb-true}
 use Rattle.flashrules.proofs.Picks.{on_test}
@@ -22,20 +22,21 @@ pub ruleset characters = (digit_first, by_character)
 
 -- ---- the loop: what is left to parse leads on to the state
 
+pub feed_next : (count kind : ℕ) (xs : List ℕ) (i : ℕ) (r : Parser) → i < length xs → r ≡ with_character count kind (get_or xs i 0)
+    → feed r (drop (i + 1) xs) ≡ feed (state true count kind) (drop i xs)
+unfolding feed_byte
+feed_next count kind xs i r h e = rw (drop_more xs i 0 h, e)
+
 -- what is broken stays broken
 pub broken_stays : (xs : List ℕ) → feed broken xs ≡ broken
 unfolding feed_byte
 broken_stays [] = refl
 broken_stays (x ∷ xs) = broken_stays xs
 
-pub feed_next : (count kind : ℕ) (xs : List ℕ) (i : ℕ) (r : Parser) → i < length xs → r ≡ with_character count kind (get_or xs i 0)
-    → feed r (drop (i + 1) xs) ≡ feed (state true count kind) (drop i xs)
+-- and keeps no numbers
+pub broken_left : (n k : ℕ) (xs : List ℕ) (i : ℕ) → i < length xs → broken ≡ feed (state false n k) (drop i xs)
 unfolding feed_byte
-feed_next count kind xs i r h e = rw (drop_more xs i 0 h, e)
-
-pub feed_stops : (count kind : ℕ) (xs : List ℕ) (i : ℕ) → i < length xs → broken ≡ with_character count kind (get_or xs i 0)
-    → broken ≡ feed (state true count kind) (drop i xs)
-feed_stops count kind xs i h e = sym (broken_stays (drop (i + 1) xs)) ∙ feed_next count kind xs i broken h e
+broken_left n k xs i h = rw (drop_more xs i 0 h) (sym (broken_stays (drop (i + 1) xs)))
 
 -- what proves `feed`
-pub ruleset feeds = (broken_stays, feed_next, feed_stops)
+pub ruleset feeds = (feed_next, broken_left)

@@ -6,7 +6,7 @@ pub mod lines;
 
 ghost use Rattle.std.specs.Prelude.{◌≡◌};
 ghost use Rattle.flashrules.specs.Error.{number_of};
-ghost use Rattle.scriptrules.specs.Parser.{parser, start, is_digit, is_whole, kind_with, with_digit, with_character, feed, end_error, is_frame};
+ghost use Rattle.scriptrules.specs.Parser.{parser, start, broken, is_digit, is_whole, kind_with, with_digit, with_character, feed, end_error, is_frame};
 
 use flashrules::error::Error;
 use hextext::{LINE_FEED, value};
@@ -16,7 +16,16 @@ use scriptrules::parser::{Line, MAX_FRAME, Parser, READ, SUPPLY, WRITE};
 pub fn start() -> Parser
     ensures { parser result ≡ start }
 {
-    Some(Line {
+    Ok(Line {
+        count: 0,
+        kind: READ,
+    })
+}
+
+fn broken() -> Parser
+    ensures { parser result ≡ broken }
+{
+    Err(Line {
         count: 0,
         kind: READ,
     })
@@ -53,9 +62,9 @@ fn with_digit(line: Line, c: u8) -> Parser
 {
     let Line { count, kind } = line;
     if 2 * MAX_FRAME <= count {
-        return None;
+        return broken();
     }
-    Some(Line {
+    Ok(Line {
         count: count + 1,
         kind: if count < 2 { kind_with(kind, c) } else { kind },
     })
@@ -70,20 +79,23 @@ fn with_character(line: Line, c: u8) -> Parser
     } else if c == LINE_FEED && is_whole(line.kind, line.count) {
         start()
     } else {
-        None
+        broken()
     }
 }
 
-// The state after another chunk.
+// The state after another chunk. A state that no character is fed to stays as it was.
 #[tactic(auto, using(crate::proofs::StateLaws::feeds))]
 pub fn feed(state: Parser, chunk: &[u8]) -> Parser
     ensures { parser result ≡ feed (parser state) chunk.now }
 {
-    let mut line = state?;
+    let mut after = state;
     for c in chunk {
-        line = with_character(line, *c)?;
+        after = match after {
+            Ok(line) => with_character(line, *c),
+            Err(_) => return broken(),
+        };
     }
-    Some(line)
+    after
 }
 
 // Whether all that was fed is a script.
@@ -92,7 +104,7 @@ pub fn end(state: Parser) -> Result<(), Error>
     ensures { number_of result ≡ end_error (parser state) }
 {
     match state {
-        Some(Line { count: 0, .. }) => Ok(()),
+        Ok(Line { count: 0, .. }) => Ok(()),
         _ => Err(Error::Malformed),
     }
 }
@@ -104,7 +116,7 @@ pub fn is_frame(line: &[u8]) -> bool
     ensures { result ≡ is_frame line.now }
 {
     match feed(start(), line) {
-        Some(after) => after.count == line.len() && is_whole(after.kind, after.count),
-        None => false,
+        Ok(after) => after.count == line.len() && is_whole(after.kind, after.count),
+        Err(_) => false,
     }
 }

@@ -1,26 +1,26 @@
 -- Two different answers of a call have different numbers, and so have two states of the parser.
-use Rattle.std.specs.Prelude.{ℕ, ◌≤◌, ◌≡◌, Bool, true, false, Option, Some, None, Result, Ok, Err}
-use mathlib.Core.Path.{refl, sym, ap}
+use Rattle.std.specs.Prelude.{◌≤◌, ◌≡◌, cond, Result, Ok, Err}
+use mathlib.Core.Path.{refl, sym, ap, ◌∙◌}
 use mathlib.Core.HLevel.{is_prop→PathP}
 use native.Mathlib.Bridge.{le_prop}
 use native.Mathlib.Omega.{arith}
 use Rattle.flashrules.proofs.ErrorLaws.{number_some, numbers_apart, none_apart}
 use Rattle.scriptrules.specs.Answer.{LineAnswer, RunAnswer}
 use Rattle.scriptrules.specs.AnswerLaws.{ParsersApart, LineAnswersApart, RunAnswersApart}
-use Rattle.scriptrules.specs.Parser.{Parser}
+use Rattle.scriptrules.specs.Parser.{Parser, parser}
+use Rattle.scriptrules.specs.declared.parser.Line.{Line}
 use Rattle.scriptrules.specs.Reply.{max_reply}
 
-good_apart : true ≡ false → ⊥
-good_apart p = let z : ◌≡◌ {A = ℕ} 0 1 = cc in omega (arith, z)
+-- a state, read off its numbers
+abbrev state_of : Parser → Result Line Line
+state_of p = let s : Line = record { count = p.count; kind = p.kind } in cond p.good (Ok s) (Err s)
+
+state_back : (s : Result Line Line) → state_of (parser s) ≡ s
+state_back (Ok s) = refl
+state_back (Err s) = refl
 
 pub parsers_apart : ParsersApart
-parsers_apart (Some s) (Some t) p =
-    let n : s.count ≡ t.count = ap (λ (a : Parser). a.count) p in
-    let k : s.kind ≡ t.kind = ap (λ (a : Parser). a.kind) p in
-    let e : s ≡ t = λ i. record { count = n i; kind = k i } in ap Some e
-parsers_apart (Some s) None p = absurd (good_apart (ap (λ (a : Parser). a.good) p))
-parsers_apart None (Some t) p = absurd (good_apart (sym (ap (λ (a : Parser). a.good) p)))
-parsers_apart None None p = refl
+parsers_apart s t p = sym (state_back s) ∙ ap state_of p ∙ state_back t
 
 pub line_answers_apart : LineAnswersApart
 line_answers_apart b (Ok v) (Ok w) p =

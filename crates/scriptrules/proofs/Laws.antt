@@ -1,5 +1,5 @@
--- The claims of specs/Laws.antt and specs/WhyLaws.antt, proved: what crates above cite. Each proof
--- stands with the laws that it rests on.
+-- The claims of specs/, proved: what crates above cite. Each proof stands with the laws that it
+-- rests on.
 pub use Rattle.scriptrules.proofs.ApartLaws.{parsers_apart, line_answers_apart, run_answers_apart}
 pub use Rattle.scriptrules.proofs.ParserLaws.{feed_chunks}
 pub use Rattle.scriptrules.proofs.ScriptLaws.{accepted_line, accepted_script}

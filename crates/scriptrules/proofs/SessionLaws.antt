@@ -21,7 +21,7 @@ use Rattle.causerules.specs.Notes.{blank, next_line, max_lines, note_all, track,
 use Rattle.causerules.specs.Laws.{Remembers}
 use Rattle.causerules.specs.declared.reason.Reason.{Reason}
 use Rattle.causerules.specs.declared.notes.Notes.{Notes}
-use Rattle.causerules.specs.Answer.{TrackAnswer}
+use Rattle.causerules.specs.declared.notes.TrackAnswer.{TrackAnswer}
 use Rattle.causerules.proofs.Laws.{notes_remember, supply_remembered}
 use Rattle.causerules.proofs.HistoryLaws.{notes_line}
 use Rattle.causerules.proofs.SupplyLaws.{supply_itself}

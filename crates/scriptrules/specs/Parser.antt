@@ -1,7 +1,7 @@
 -- Which texts are scripts: parsed character by character, by a state that goes in and comes back,
 -- so that a script of any length can be parsed in chunks. specs/Laws.antt says which texts these
 -- are, in terms of specs/Frame.antt alone (`IsScript`).
-use Rattle.std.specs.Prelude.{ℕ, ◌+◌, ◌*◌, ◌%◌, Bool, true, false, cond, List, [], ◌∷◌, eqb, leb, ltb, length, Option, Some, None}
+use Rattle.std.specs.Prelude.{ℕ, ◌+◌, ◌*◌, ◌%◌, Bool, true, false, cond, List, [], ◌∷◌, eqb, leb, ltb, length, Result, Ok, Err}
 use Rattle.hextext.specs.Hex.{value, line_feed}
 use Rattle.flashrules.specs.Error.{malformed}
 use Rattle.flashrules.specs.Choice.{and}
@@ -24,10 +24,10 @@ start = state true 0 0
 abbrev pub broken : Parser
 broken = state false 0 0
 
--- a parser as the code holds it: none where a rule is broken
-abbrev pub parser : Option Line → Parser
-parser (Some s) = state true s.count s.kind
-parser None = broken
+-- a parser as the code holds it: an Err where a rule is broken
+abbrev pub parser : Result Line Line → Parser
+parser (Ok s) = state true s.count s.kind
+parser (Err s) = state false s.count s.kind
 
 -- 01: "Two upper-case digits a byte": 0 to 9, A to F
 unfoldable pub is_digit : ℕ → Bool

@@ -8,7 +8,7 @@ use Rattle.gaugerules.specs.Script.{Device, device}
 use Rattle.gaugerules.specs.declared.state.Gauge.{Gauge}
 use Rattle.causerules.specs.Notes.{blank, next_line, max_lines, track, track_supply, tracked_text}
 use Rattle.causerules.specs.declared.notes.Notes.{Notes}
-use Rattle.causerules.specs.Answer.{TrackAnswer}
+use Rattle.causerules.specs.declared.notes.TrackAnswer.{TrackAnswer}
 use Rattle.scriptrules.specs.Frame.{Frame, write_frame, read_frame, supply_frame}
 use Rattle.scriptrules.specs.Reply.{reply_text, after_frame}
 use Rattle.scriptrules.specs.Replay.{replay}

@@ -17,5 +17,5 @@ pub struct Line {
     pub kind: u8,
 }
 
-// None where a rule is broken.
-pub type Parser = Option<Line>;
+// An Err where a rule is broken. What it holds of a line means nothing, but is told.
+pub type Parser = Result<Line, Line>;

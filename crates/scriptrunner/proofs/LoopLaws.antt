@@ -69,13 +69,14 @@ module _ (line : List ℕ) (room : ℕ) (r : Result Unit Error) (p : number_of r
 
 module _ (l : Layout) (report : ℕ) (image : List ℕ) (s : Session) (line buffer : List ℕ) (at : ℕ) (r : Result Unit Error)
     (p : number_of r ≡ line_error line (length buffer - at)) where
-  -- the report is that of the number
-  pub answers : (z : Outcome LineAnswer Lent) (k : Report) → k ≡ report_of report → r ≡ Ok tt
-      → z ≡ run_frame l (report_number k) (runner s image) (frame_of line) buffer at → z ≡ run_line l report image s line buffer at
+  pub answers : (z : Outcome LineAnswer Lent) → r ≡ Ok tt → z ≡ run_frame l report (runner s image) (frame_of line) buffer at → z ≡ run_line l report image s line buffer at
   unfolding run_line
-  answers z k t q x =
-      let y : z ≡ run_frame l report (runner s image) (frame_of line) buffer at = rw t at x ∙ frame_taken l report (runner s image) (frame_of line) buffer at in
-      y ∙ rw (check_passed r _ p tt q)
+  answers z q x = x ∙ rw (check_passed r _ p tt q)
+
+  -- run with the report of the number
+  pub answers_report : (z : Outcome LineAnswer Lent) (k : Report) → k ≡ report_of report → r ≡ Ok tt
+      → z ≡ run_frame l (report_number k) (runner s image) (frame_of line) buffer at → z ≡ run_line l report image s line buffer at
+  answers_report z k t q x = answers z q (rw t at x ∙ frame_taken l report (runner s image) (frame_of line) buffer at)
 
   pub answers_not : (e : Error) → r ≡ Err e → outcome (answered (number e) s 0) (lend image buffer) ≡ run_line l report image s line buffer at
   unfolding run_line
@@ -141,6 +142,6 @@ module _ (l : Layout) (report : ℕ) (text image buffer : List ℕ) (s : Session
         run_stop e r = rw (first, ← q, r, ne_eqb (number e) 0 (λ y. omega (arith, number_some e))) at inv
 
 -- what proves `run_line` and `run`
-pub ruleset one_line = (line_runs, line_fits, answers, answers_not)
+pub ruleset one_line = (line_runs, line_fits, answers_report, answers_not)
 
 pub ruleset lines = (run_start, run_done, run_end, run_more, run_stop)
